@@ -5,7 +5,7 @@ from collections import Counter
 from classes import SPECIAL_OF_TASK, LockClass, apart, escape
 from sites import Sites
 from tasks import READ, Held, Reader, TakenBack, Task, forget
-from text import COLUMNS_INSIDE, EVENT, NMI, Contexts, Damaged, Header, fault, quote
+from text import COLUMNS_INSIDE, EVENT, NMI, Contexts, Damaged, Header, fault, is_begun, quote
 
 MOST_PLACES = 500000  # remembered at once
 ADDRESS = re.compile(r'[0-9a-f]{8}(?:[0-9a-f]{8})?').fullmatch
@@ -46,10 +46,11 @@ class Events:
     def take(self, lines):
         """Takes lines of the text, and gives way after each. Damaged where one can't be read."""
         places, handlers, width = self.places, self.handlers, self.width
+        lines = iter(lines)
         for line in lines:
             place = places.get(line[:width])
             if place is None:
-                yield from self.take_new(line)
+                yield from self.take_new(line, lines)
                 width = self.width
                 continue
             try:
@@ -71,9 +72,14 @@ class Events:
                 handle(task, context, rest)
             yield
 
-    def take_new(self, line):
-        """Takes a line whose columns, up to its time, were not seen before."""
+    def take_new(self, line, lines):
+        """Takes a line whose columns, up to its time, were not seen before. Of a task's name with a line end it takes
+        the lines behind it too."""
         match = EVENT(line)
+        while match is None and is_begun(line) and (more := next(lines, None)):
+            yield
+            line += more
+            match = EVENT(line)
         if match is None:
             self.beside(line)
             yield

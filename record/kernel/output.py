@@ -1,5 +1,7 @@
 """What the converter writes: the stream, and what is told of its lines in files beside it."""
+import contextlib
 import os
+import re
 import shutil
 import sys
 import tempfile
@@ -9,6 +11,9 @@ from places import Places
 from text import Damaged
 
 MOST_BYTES = 2147483648   # of a stream that lockcheck reads
+HEAD = 1 << 16            # bytes of a file that is there already, by which it is known
+MAP = re.compile(rb'places .*', re.DOTALL)
+LINES = re.compile(rb'([0-9]+\n)*[0-9]*')
 VERBS = ('begin', 'acquire', 'nested', 'try', 'release', 'enter', 'exit', 'enable', 'disable')
 
 
@@ -78,8 +83,31 @@ class Output:
         sys.stdout.buffer.flush()
 
 
+def refuse_other(name, form, option):
+    """Refuses a file that is something else than what is to replace it. An empty one is nothing yet."""
+    if name is None or not os.path.isfile(name):
+        return
+    if os.path.samestat(os.stat(name), os.fstat(1)):
+        raise Damaged(f'{name}: the stream goes there: name another file for {option}')
+    with open(name, 'rb') as file:
+        head = file.read(HEAD)
+    if head and not form.fullmatch(head):
+        raise Damaged(f"{name}: this isn't a file of {option}, so it stays: name another one, or remove it")
+
+
 def replace(name, write):
-    """Writes a file, which has its name only when it is whole."""
-    with open(name + '.part', 'wb') as part:
-        write(part)
-    os.replace(name + '.part', name)
+    """Writes a file, which has its name only when it is whole. What is a pipe or a device is written into."""
+    if os.path.exists(name) and not os.path.isfile(name):
+        with open(name, 'wb') as file:
+            write(file)
+        return
+    name = os.path.realpath(name)
+    part = f'{name}.{os.getpid()}.part'
+    try:
+        with open(part, 'xb') as file:
+            write(file)
+        os.replace(part, name)
+    except BaseException:
+        with contextlib.suppress(OSError):
+            os.unlink(part)
+        raise

@@ -5,10 +5,10 @@ put them, whatever bytes a task's name has.
 """
 import re
 
-# A task's name fills 16 columns, the group of threads is there where `record-tgid` was on, and the
-# column of flags has exactly five characters.
+# A task's name fills 16 columns, and may have line ends. The group of threads is there where `record-tgid`
+# was on, and the column of flags has exactly five characters.
 EVENT = re.compile(
-    r'(.{16})-(\d+) +(?:\([-\d ]{7}\) )?\[(\d{3,})\] (\S{5}) +(\d+(?:\.\d+)?): '
+    r'((?s:.){16})-(\d+) +(?:\([-\d ]{7}\) )?\[(\d{3,})\] (\S{5}) +(\d+(?:\.\d+)?): '
     r'(?:([^\s:]+(?: \[[^\s\]]+\])?): ?(.*)|<stack trace>)\n').fullmatch
 NO_NAME = re.compile(r'.{16}-\d+ .*\[\d{3,}\] (\S{5}) +\d+(?:\.\d+)?: .*\n').fullmatch
 NO_FLAGS = re.compile(r'.{16}-\d+ .*\[\d{3,}\] +\d+(?:\.\d+)?: .*\n').fullmatch
@@ -28,6 +28,7 @@ COLUMNS_INSIDE = re.compile(r'\[\d{3,}\] \S{5} +\d+(?:\.\d+)?: ').search
 LOSS = re.compile(r'CPU:\d+ \[LOST (?:\d+ )?EVENTS\]\n|##### CPU \d+ buffer started ####\n').fullmatch
 ENTRIES = re.compile(r'# entries-in-buffer/entries-written: (\d+)/').match
 TRACER = re.compile(r'# tracer: (.*)\n').fullmatch
+STACK = ' => '  # before each line of a stack trace
 
 
 class Damaged(Exception):
@@ -69,6 +70,11 @@ def quote(text):
     return ascii(text if len(text) <= 60 else text[:60] + '...')
 
 
+def is_begun(line):
+    """Whether a line may be the begin of an event's: a task's name, with blanks before it, as far as its line end."""
+    return len(line) <= 16 and line[0] == ' ' and not line.startswith(STACK)
+
+
 def fault_at_end(line):
     """Says that a line isn't whole; None where it is."""
     return None if line.endswith('\n') else 'the text ends inside this line: it was cut'
@@ -107,7 +113,7 @@ class Header:
             return True
         if line[0] == '#':
             self.comment(line)
-        elif not line.startswith(' => '):  # a line of a stack trace
+        elif not line.startswith(STACK):
             raise Damaged(fault(line))
         return False
 

@@ -66,7 +66,9 @@ def build(target, command, maker):
     new, note = f"{target}.{os.getpid()}", f"{target}.made"
     try:
         subprocess.run([*command, "-o", new], check=True, stdout=sys.stderr)
-    except (OSError, subprocess.CalledProcessError) as error:
+    except OSError as error:
+        raise NotBuilt(f"{os.path.basename(target)} was not built: {command[0]}: {error.strerror}") from error
+    except subprocess.CalledProcessError as error:
         raise NotBuilt(f"{os.path.basename(target)} was not built: {error}") from error
     with open(f"{note}.{os.getpid()}", "w", encoding="utf-8") as file:
         file.write(maker or "")

@@ -1,5 +1,5 @@
 //! Writes names.
-ghost use Rattle.std.specs.Prelude.{◌≡◌, ◌<◌, ◌++◌, List, OnOk, count_by, ℕ};
+ghost use Rattle.std.specs.Prelude.{◌≡◌, ◌<◌, ◌≤◌, ◌++◌, ◌∷◌, [], IsTrue, List, OnOk, count_by, flat_map, length, take, ℕ};
 ghost use Rattle.std.specs.List.{AllPass};
 ghost use Rattle.ld_escape.specs.Forms.{is_marked};
 ghost use Rattle.ld_escape.specs.Shown.{is_shown};
@@ -23,11 +23,46 @@ pub fn write_escaped(out: &mut Vec<u8>, form: Form, name: &[u8]) -> Result<(), A
     ensures distinct { OnOk result ((other : List ℕ) → written form other ≡ written form name.now →
         other ≡ name.now) }
 {
-    let shown = is_shown(name);
-    for byte in name {
+    write_pieces(out, form, is_shown(name), name)
+}
+
+/// Writes the bytes of a name that is shown, or of one that isn't.
+fn write_pieces(out: &mut Vec<u8>, form: Form, shown: bool, name: &[u8]) -> Result<(), AllocError>
+    ensures { OnOk result (out.new.items ≡ out.old.items ++ flat_map (piece form shown) name.now) }
+{
+    let mut rest = name;
+    loop {
+        let (plain, behind) = rest.split_at(plain_len(form, shown, rest));
+        out.extend_from_slice(plain)?;
+        let Some((byte, after)) = behind.split_first() else {
+            return Ok(());
+        };
         write_byte(out, form, shown, *byte)?;
+        rest = after;
     }
-    Ok(())
+}
+
+/// How many bytes at the front of a name stand in the text as they are.
+fn plain_len(form: Form, shown: bool, name: &[u8]) -> usize
+    ensures within { result ≤ length name.now }
+    ensures plain { flat_map (piece form shown) (take result name.now) ≡ take result name.now }
+{
+    for (count, byte) in name.iter().enumerate() {
+        if !is_plain(form, shown, *byte) {
+            return count;
+        }
+    }
+    name.len()
+}
+
+/// Whether a byte stands in the text as it is.
+fn is_plain(form: Form, shown: bool, byte: u8) -> bool
+    ensures { IsTrue result → piece form shown byte ≡ byte ∷ [] }
+{
+    // Most bytes are these, which no form marks.
+    byte.is_ascii_alphanumeric()
+        || byte == b'_'
+        || !is_marked(form, shown, byte) && !is_hidden(form, shown, byte)
 }
 
 /// Writes a byte of a name that is shown, or of one that isn't.

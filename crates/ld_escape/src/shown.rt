@@ -8,6 +8,10 @@ ghost use Rattle.ld_escape.specs.Shown.{is_odd, is_shown};
 pub fn is_shown(name: &[u8]) -> bool
     ensures { result ≡ is_shown name.now }
 {
+    // Nearly all names are ASCII, of which no character is odd.
+    if name.is_ascii() {
+        return true;
+    }
     match str::from_utf8(name) {
         Ok(text) => !has_odd(text),
         Err(_) => false,

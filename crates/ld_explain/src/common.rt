@@ -3,6 +3,7 @@
 use crate::readers::{Held, holds_in, innermost};
 use crate::sightings::Sightings;
 use crate::violations::Step;
+use ld_overview::{Book, ClassName};
 use ld_replay::task_of;
 use std::alloc::{AllocError, Global};
 
@@ -26,10 +27,41 @@ fn task_at<'a>(sightings: &Sightings<'a>, step: &Step<'_>) -> Option<&'a [u8]> {
     }
 }
 
-/// The locks that are held at the first occurrence of each of these dependencies, in the same frame, each once. A lock
-/// is written if it is so at one of them, as then the tasks exclude each other. Different traces may name other locks
-/// by the same instance, so there only locks without one are the same.
+/// The locks that are held at the first occurrence of each of these dependencies, in the same frame, each once, and that
+/// let one of their tasks in at a time. A lock is written if it is so at one of them, as then the tasks exclude each
+/// other. Different traces may name other locks by the same instance, so there only locks without one are the same.
 pub fn common_locks<'a>(
+    alloc: Global,
+    book: &Book<'a>,
+    sightings: &Sightings<'a>,
+    steps: &[Step<'_>],
+) -> Result<Vec<Held<'a>>, AllocError> {
+    let mut excluding = Vec::new(alloc);
+    for held in &held_at_each(alloc, sightings, steps)? {
+        if is_held_by_one(alloc, book, held)? {
+            excluding.push(*held)?;
+        }
+    }
+    Ok(excluding)
+}
+
+/// Whether a common lock is held by one of its tasks at a time: one of them writes it, or no recursive reader waits for
+/// locks of its class in any trace. If all of them only read it, it lets them in together.
+fn is_held_by_one(alloc: Global, book: &Book<'_>, held: &Held<'_>) -> Result<bool, AllocError> {
+    if held.is_written {
+        return Ok(true);
+    }
+    let mut name = held.lock.class.to_vec(alloc)?;
+    name.extend_from_slice(b"!read")?;
+    let for_readers = ClassName {
+        name: &name,
+        sub: 0,
+    };
+    Ok(book.usage(for_readers).is_none())
+}
+
+/// The locks that are held at the first occurrence of each of these dependencies, whether they exclude each other or not.
+fn held_at_each<'a>(
     alloc: Global,
     sightings: &Sightings<'a>,
     steps: &[Step<'_>],

@@ -3,7 +3,7 @@
 use crate::around::near;
 use crate::known::{known_at, write_known};
 use crate::violations::{Choice, Dependency, Violation, chosen, is_named};
-use crate::writing::write_sub;
+use crate::writing::{write_file, write_sub};
 use indexmap::{IndexMap, IndexSet};
 use ld_overview::{
     Book, ClassName, ClassRow, DependencyRow, Overview, Witness, has_readers, lock_of_readers,
@@ -323,7 +323,9 @@ impl<'t, 'a> Drawing<'t, 'a> {
     fn place(&mut self, line: u64) -> Result<(), AllocError> {
         match self.places.place(line) {
             Some(place) => {
-                write_shown(&mut self.text, place.file.as_bytes())?;
+                let mut file = Vec::new(self.alloc);
+                write_file(&mut file, place.file)?;
+                write_shown(&mut self.text, &file)?;
                 let own = place.line;
                 write!(self.text, ":{own}").map_err(|_| AllocError)
             }
@@ -335,7 +337,7 @@ impl<'t, 'a> Drawing<'t, 'a> {
 /// What is known of a line, as a text.
 fn known_of(alloc: Global, at: At<'_>) -> Result<Vec<u8>, AllocError> {
     let mut text = Vec::new(alloc);
-    write_known(&mut text, at)?;
+    write_known(alloc, &mut text, at)?;
     Ok(text)
 }
 

@@ -11,7 +11,7 @@ use crate::telling::Telling;
 use crate::violations::{Dependency, Ends, Step, Violation, at_most};
 use crate::writing::{state_name, write_lock};
 use indexmap::IndexSet;
-use ld_overview::{ClassName, Witness, lock_of_readers, write_held, write_waited};
+use ld_overview::{Book, ClassName, Witness, lock_of_readers, write_held, write_waited};
 use ld_places::ShownPlaces;
 use ld_rows::Kind;
 use ld_source_map::Maps;
@@ -26,7 +26,7 @@ use std::io::Write;
 /// again. The last line says how many are explained, and how many are not: `most` are at most, and all where it is 0.
 /// So many refused traces are told of at most, too.
 ///
-/// `sources` are the traces of their book, each at the place of its number, `places` says where the lines are
+/// `sources` are the traces of their `book`, each at the place of its number, `places` says where the lines are
 /// shown, and `maps` what is known of these files' lines and of classes, which stands below each line and below the
 /// line that first names the class.
 ///
@@ -35,6 +35,7 @@ use std::io::Write;
 /// `AllocError` where a growth of memory was refused.
 pub fn explain<'t, 'a>(
     alloc: Global,
+    book: &'t Book<'a>,
     faults: &[Fault],
     violations: &[Violation<'_, 'a>],
     most: u64,
@@ -53,6 +54,7 @@ pub fn explain<'t, 'a>(
     let texts = Texts::of(alloc, sources, sightings.lines(alloc)?)?;
     wanted.told(Telling {
         alloc,
+        book,
         sources,
         places,
         maps,
@@ -225,7 +227,8 @@ impl<'t, 'a> Explaining<'t, 'a> {
         write_waited(&mut self.telling.text, dependency.to)
     }
 
-    /// A dependency at its first witness, with the locks that its task held there in the same frame.
+    /// A dependency at its first witness, with the locks that its task held there in the same frame, and the handlers that
+    /// it was in.
     fn step(&mut self, step: Step<'a>) -> Result<(), AllocError> {
         self.telling.text.extend_from_slice(b"  ")?;
         self.dependency(step.dependency)?;
@@ -240,17 +243,19 @@ impl<'t, 'a> Explaining<'t, 'a> {
             return Ok(());
         };
         self.telling.seen(step.first, before)?;
-        self.telling.holds(step.first.number, before)
+        self.telling.holds(step.first.number, before)?;
+        self.telling.handlers(step.first.number, before)
     }
 
     /// What the first occurrences of a cycle's dependencies have in common: their task, and the locks that are held at
-    /// each.
+    /// each and exclude their tasks.
     fn common(&mut self, steps: &[Step<'a>]) -> Result<(), AllocError> {
         let all = if steps.len() == 2 { "both" } else { "all" };
         if are_by_one_task(self.telling.sightings, steps) {
             writeln!(self.telling.text, "  {all} by one task").map_err(|_| AllocError)?;
         }
-        let locks = common_locks(self.telling.alloc, self.telling.sightings, steps)?;
+        let telling = &self.telling;
+        let locks = common_locks(telling.alloc, telling.book, telling.sightings, steps)?;
         for held in &locks {
             write!(self.telling.text, "  {all} under ").map_err(|_| AllocError)?;
             write_lock(&mut self.telling.text, held)?;
@@ -274,7 +279,7 @@ impl<'t, 'a> Explaining<'t, 'a> {
     }
 
     /// Where a lock of its class was held while such a handler could interrupt, the locks of the class that
-    /// its task held there already, in whatever frame, and since when such a handler could.
+    /// its task held there already, in whatever frame, the handlers that it was in, and since when such a handler could.
     fn exposed_end(&mut self, ends: &Ends<'a>) -> Result<(), AllocError> {
         self.telling.text.extend_from_slice(b"  ")?;
         write_held(&mut self.telling.text, ends.exposed)?;
@@ -295,6 +300,7 @@ impl<'t, 'a> Explaining<'t, 'a> {
                 self.telling.hold(number, &Held::of(hold))?;
             }
         }
+        self.telling.handlers(number, before)?;
         let flags = before.flags();
         self.telling.flag(number, State::Hard, flags.hard)?;
         match ends.state {
@@ -310,6 +316,6 @@ impl<'t, 'a> Explaining<'t, 'a> {
             return Ok(());
         }
         let maps = self.telling.maps;
-        write_known_class(&mut self.telling.text, maps, name)
+        write_known_class(self.telling.alloc, &mut self.telling.text, maps, name)
     }
 }

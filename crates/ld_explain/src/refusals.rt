@@ -2,6 +2,7 @@
 
 use crate::fault::Fault;
 use crate::telling::Telling;
+use crate::writing::write_visible;
 use ld_overview::Witness;
 use ld_replay::Before;
 use ld_rules::TraceFault;
@@ -114,7 +115,7 @@ fn tell_open<'a>(
 fn write_why(out: &mut Vec<u8>, said: &[u8], fault: TraceFault) -> Result<(), AllocError> {
     let (verb, count) = words_of(said);
     out.extend_from_slice(b"  ")?;
-    out.extend_from_slice(verb)?;
+    write_visible(out, verb)?;
     match Form::of(verb) {
         Some(form) => {
             let fields = form.fields();

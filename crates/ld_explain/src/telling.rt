@@ -3,8 +3,8 @@
 use crate::known::{known_at, write_known_line};
 use crate::readers::{Held, holds_in, innermost};
 use crate::sightings::{Sightings, Texts};
-use crate::writing::{state_name, write_lock, write_place};
-use ld_overview::Witness;
+use crate::writing::{state_name, write_lock, write_place, write_visible};
+use ld_overview::{Book, Witness};
 use ld_places::ShownPlaces;
 use ld_replay::{Before, Flag, task_of};
 use ld_source_map::Maps;
@@ -16,6 +16,8 @@ use std::io::Write;
 #[derive(Drop)]
 pub struct Telling<'t, 'a> {
     pub alloc: Global,
+    /// What all traces show.
+    pub book: &'t Book<'a>,
     /// The traces, each at the place of its number.
     pub sources: &'t [Source<'a>],
     /// Where their lines are shown.
@@ -84,11 +86,10 @@ impl<'t, 'a> Telling<'t, 'a> {
     pub fn line(&mut self, number: u64, line: u64) -> Result<(), AllocError> {
         write_place(&mut self.text, self.places, line)?;
         self.text.extend_from_slice(b": ")?;
-        self.text
-            .extend_from_slice(self.texts.at(Witness { number, line }))?;
+        write_visible(&mut self.text, self.texts.at(Witness { number, line }))?;
         self.text.push(b'\n')?;
         match known_at(self.places, self.maps, line) {
-            Some(at) => write_known_line(&mut self.text, at),
+            Some(at) => write_known_line(self.alloc, &mut self.text, at),
             None => Ok(()),
         }
     }

@@ -57,7 +57,7 @@ struct Articles<'t, 'r, 'a> {
 }
 
 impl Articles<'_, '_, '_> {
-    /// A group, and the dependency that most of it have.
+    /// A group, and the dependency that more of it have than any other.
     fn group(&mut self, group: &Group, place: u64) -> Result<(), AllocError> {
         self.text.put("<section class=\"group\">\n<h3>Group ")?;
         self.text.number(place.saturating_add(1))?;
@@ -86,9 +86,8 @@ impl Articles<'_, '_, '_> {
                 self.text.number(most.dependency as u64)?;
                 self.text.put("\">")?;
                 self.pair(dependency)?;
-                self.text.put(
-                    "</a>: if these locks are taken the other way round, most are solved.",
-                )?;
+                self.text.put("</a> in the path that is shown. ")?;
+                self.text.put(advice_on(dependency))?;
             }
         }
         self.text.put("</p>\n")
@@ -241,5 +240,15 @@ impl Articles<'_, '_, '_> {
             }
             None => Ok(()),
         }
+    }
+}
+
+/// What may help with the violations whose paths have a dependency. Others may lead on to the same place, so none of them
+/// has to be gone.
+fn advice_on(dependency: &Dependency<'_>) -> &'static str {
+    if dependency.from == dependency.to {
+        "Make one order for these locks and give the inner one another class, or hold one at a time. Then check again: other paths may remain."
+    } else {
+        "Take these locks the other way round, and check again: other paths may remain."
     }
 }

@@ -28,39 +28,49 @@ impl Stripped<'_> {
 #[derive(Clone, Copy, Debug)]
 pub(crate) struct Spot<'f> {
     pub(crate) file: &'f [u8],
-    /// Counted from 1; `None` if it is unknown.
-    pub(crate) line: Option<u64>,
+    /// Counted from 1.
+    pub(crate) line: u64,
 }
 
-/// Where a line of a trace comes from: the innermost call in a file that begins with the prefix, else the innermost
-/// call; without calls the line itself, in its trace.
+/// Where a line of a trace comes from: the innermost call with a line of source in a file that begins with the prefix,
+/// else the innermost one with a line of source; without such a call the line itself, in its trace.
 pub(crate) fn spot_of<'l>(line: &'l Line<'_>, stripped: &Stripped<'_>) -> Spot<'l> {
     match &line.place {
-        Some(Place::Called(frames)) => match frame_of(frames, stripped) {
-            Some(frame) => Spot {
-                file: stripped.path(&frame.file),
-                line: frame.line,
-            },
+        Some(Place::Called(frames)) => match called(frames, stripped) {
+            Some(spot) => spot,
             None => traced(&line.at, stripped),
         },
         _ => traced(&line.at, stripped),
     }
 }
 
-/// The call to point at, if there is one.
-fn frame_of<'l>(frames: &'l [Frame], stripped: &Stripped<'_>) -> Option<&'l Frame> {
+/// The line of source to point at, if a call has one.
+fn called<'l>(frames: &'l [Frame], stripped: &Stripped<'_>) -> Option<Spot<'l>> {
+    let mut innermost = None;
     for frame in frames {
-        if frame.line.is_some() && stripped.rest(&frame.file).is_some() {
-            return Some(frame);
+        if let Some(spot) = source_of(frame, stripped) {
+            if stripped.rest(&frame.file).is_some() {
+                return Some(spot);
+            }
+            innermost = innermost.or(Some(spot));
         }
     }
-    frames.first()
+    innermost
+}
+
+/// The line of source of a call. If a map names none, its file is no file either, but a function and an offset.
+pub(crate) fn source_of<'f>(frame: &'f Frame, stripped: &Stripped<'_>) -> Option<Spot<'f>> {
+    let line = frame.line?;
+    Some(Spot {
+        file: stripped.path(&frame.file),
+        line,
+    })
 }
 
 /// A line of a trace, in its file.
 pub(crate) fn traced<'l>(at: &At<'l>, stripped: &Stripped<'_>) -> Spot<'l> {
     Spot {
         file: stripped.path(at.file.as_bytes()),
-        line: Some(at.file_line),
+        line: at.file_line,
     }
 }

@@ -78,11 +78,8 @@ fn write_violation(
 fn write_spot(text: &mut Text, spot: &Spot<'_>) -> Result<(), AllocError> {
     text.put("file=")?;
     text.name(Form::Property, spot.file)?;
-    if let Some(line) = spot.line {
-        text.put(",line=")?;
-        text.number(line)?;
-    }
-    Ok(())
+    text.put(",line=")?;
+    text.number(spot.line)
 }
 
 /// How many traces and violations there are.

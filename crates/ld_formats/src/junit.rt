@@ -111,13 +111,9 @@ fn write_group(
 fn write_spot(text: &mut Text, spot: &Spot<'_>) -> Result<(), AllocError> {
     text.put(" file=\"")?;
     text.name(Form::Markup, spot.file)?;
-    text.put("\"")?;
-    if let Some(line) = spot.line {
-        text.put(" line=\"")?;
-        text.number(line)?;
-        text.put("\"")?;
-    }
-    Ok(())
+    text.put("\" line=\"")?;
+    text.number(spot.line)?;
+    text.put("\"")
 }
 
 /// A violation, with what stands behind it.

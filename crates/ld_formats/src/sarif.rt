@@ -1,6 +1,6 @@
 //! SARIF 2.1.0: a rule for each kind, a result for each violation.
 
-use crate::files::{Spot, Stripped, spot_of, traced};
+use crate::files::{Spot, Stripped, source_of, spot_of, traced};
 use crate::story::Lines;
 use crate::text::Text;
 use crate::words::{
@@ -234,12 +234,11 @@ impl Writer<'_, '_, '_> {
     fn frame(&mut self, frame: &Frame) -> Result<(), AllocError> {
         self.text.put("{\"location\":{\"logicalLocations\":[{\"kind\":\"function\",\"name\":\"")?;
         self.text.name(Form::Json, &frame.function)?;
-        self.text.put("\"}],")?;
-        let spot = Spot {
-            file: self.stripped.path(&frame.file),
-            line: frame.line,
-        };
-        self.spot(&spot)?;
+        self.text.put("\"}]")?;
+        if let Some(spot) = source_of(frame, &self.stripped) {
+            self.text.put(",")?;
+            self.spot(&spot)?;
+        }
         self.text.put("}}")
     }
 
@@ -251,12 +250,8 @@ impl Writer<'_, '_, '_> {
             self.text.put("file://")?;
         }
         self.text.name(Form::Uri, spot.file)?;
-        self.text.put("\"}")?;
-        if let Some(line) = spot.line {
-            self.text.put(",\"region\":{\"startLine\":")?;
-            self.text.number(line.max(1))?;
-            self.text.put("}")?;
-        }
-        self.text.put("}")
+        self.text.put("\"},\"region\":{\"startLine\":")?;
+        self.text.number(spot.line.max(1))?;
+        self.text.put("}}")
     }
 }

@@ -32,7 +32,7 @@ pub fn report(alloc: Global, book: &Book<'_>) -> Result<Vec<u8>, AllocError>
         return quiet_text(alloc, &totals);
     }
     let traces = Traces::new(alloc, book)?;
-    text_of(alloc, &totals, &traces, &findings)
+    text_of(alloc, &totals, &traces, findings)
 }
 
 /// The lines where no trace is refused and there is no violation.
@@ -50,18 +50,19 @@ fn text_of(
     alloc: Global,
     totals: &Totals,
     traces: &Traces<'_, '_>,
-    findings: &Findings<'_, '_>,
+    findings: Findings<'_, '_>,
 ) -> Result<Vec<u8>, AllocError>
     ensures { IfOk result (λ text. text.items ≡
         summary_line totals.now ++ refused_lines traces.now
-        ++ violation_lines traces.now (plain_findings findings.now)
-        ++ last_line (violations (plain_findings findings.now))) }
+        ++ violation_lines traces.now (plain_findings findings.entry)
+        ++ last_line (violations (plain_findings findings.entry))) }
 {
     let mut text = Vec::new(alloc);
     write_summary(&mut text, totals)?;
     write_all_refused(&mut text, traces.listed())?;
+    let count = count_of(&findings);
     write_violations(alloc, &mut text, traces, findings)?;
-    write_last(&mut text, count_of(findings))?;
+    write_last(&mut text, count)?;
     Ok(text)
 }
 
@@ -84,14 +85,14 @@ fn write_violations(
     alloc: Global,
     text: &mut Vec<u8>,
     traces: &Traces<'_, '_>,
-    findings: &Findings<'_, '_>,
+    findings: Findings<'_, '_>,
 ) -> Result<(), AllocError>
     ensures { OnOk result (text.new.items ≡ text.old.items ++
-        violation_lines traces.now (plain_findings findings.now)) }
+        violation_lines traces.now (plain_findings findings.entry)) }
 {
     write_cycles(text, traces, findings.cycles.items())?;
     write_conflicts(text, traces, findings.conflicts.items())?;
-    write_all_forbidden(alloc, text, traces, findings.forbidden.items())
+    write_all_forbidden(alloc, text, traces, findings.forbidden.into_vec())
 }
 
 /// Writes the dependencies on cycles.
@@ -125,20 +126,21 @@ fn write_conflicts(
 }
 
 /// Writes the forbidden walks.
+// A row is let go soon after its line is written, while it is still in the processor's cache.
 fn write_all_forbidden(
     alloc: Global,
     text: &mut Vec<u8>,
     traces: &Traces<'_, '_>,
-    walks: &[ForbiddenRow<'_, '_>],
+    walks: Vec<ForbiddenRow<'_, '_>>,
 ) -> Result<(), AllocError>
     ensures { OnOk result (text.new.items ≡ text.old.items ++
-        flat_map (forbidden_line traces.now) (map plain_forbidden_row walks.now)) }
+        flat_map (forbidden_line traces.now) (map plain_forbidden_row walks.entry.items)) }
 {
     let mut begin = Vec::new(alloc);
-    let mut before = None;
+    let mut before: Option<ForbiddenRow<'_, '_>> = None;
     for walk in walks {
-        begin_forbidden(&mut begin, traces, before, walk)?;
-        write_forbidden(text, traces, &begin, walk)?;
+        begin_forbidden(&mut begin, traces, before.as_ref(), &walk)?;
+        write_forbidden(text, traces, &begin, &walk)?;
         before = Some(walk);
     }
     Ok(())

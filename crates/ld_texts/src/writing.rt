@@ -71,6 +71,17 @@ pub(crate) fn write_at(
     at: Witness,
 ) -> Result<(), AllocError> {
     text.extend_from_slice(seen.label(at.number))?;
+    text.push(b' ')?;
     let (file, line) = seen.place(at.line);
-    write!(text, " {file}:{line}").map_err(|_| AllocError)
+    write_file(text, file)?;
+    write!(text, ":{line}").map_err(|_| AllocError)
+}
+
+/// Writes the name of a file on one line: a control byte, which would end the line or move what is shown, is `?`.
+fn write_file(text: &mut Vec<u8>, name: &str) -> Result<(), AllocError> {
+    for byte in name.as_bytes() {
+        let is_control = *byte < 32 || *byte == 127;
+        text.push(if is_control { b'?' } else { *byte })?;
+    }
+    Ok(())
 }

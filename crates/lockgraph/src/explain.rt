@@ -136,6 +136,7 @@ fn text_in(
     };
     explain(
         alloc,
+        &checked.book,
         &faults,
         &violations,
         choice.most,

@@ -37,6 +37,7 @@ class Explained(Shown):
                     seen = self.facts.dependencies[step]
                     yield self.seen(seen)
                     yield from map(self.hold, self.frame(seen))
+                    yield from self.handlers(seen)
         if violation.kind == "inversion":
             yield from self.common(violation)
         if violation.ends:
@@ -51,6 +52,9 @@ class Explained(Shown):
     def hold(self, told):
         lock, is_written, line = told
         return f"    holds {lock}{' (written)' if is_written else ''}, {self.line(line)}"
+
+    def handlers(self, seen):
+        return (f"    in a {state} handler, {self.line(line)}" for state, line in seen.handlers)
 
     def frame(self, seen):
         """The locks that are held in the innermost handler, or outside any: what a writer holds is one."""
@@ -76,7 +80,9 @@ class Explained(Shown):
             found = [[it for it in self.frame(one) if it[0] == name] for one in seen]
             if all(found) and ("@" not in name or self.is_one_trace(seen)):
                 is_written = any(it[1] for one in found for it in one[:1])
-                yield f"  {word} under {name}{' (written)' if is_written else ''}"
+                # Recursive readers of a lock are let in together.
+                if is_written or (name.partition("@")[0] + "!read", 0) not in self.facts.classes:
+                    yield f"  {word} under {name}{' (written)' if is_written else ''}"
 
     def is_one_trace(self, seen):
         return any(all(it.line in trace for it in seen) for trace in self.case.traces)
@@ -86,8 +92,7 @@ class Explained(Shown):
         seen = self.facts.uses[safe, "in", violation.state]
         yield f"  {violation.state} handlers acquire {waited(safe)}"
         yield self.seen(seen)
-        for state, line in seen.handlers:
-            yield f"    in a {state} handler, {self.line(line)}"
+        yield from self.handlers(seen)
         seen = self.facts.uses[exposed, "on", violation.state]
         yield f"  {held(exposed)} is held where {violation.state} handlers can interrupt"
         yield self.seen(seen)
@@ -96,6 +101,7 @@ class Explained(Shown):
                 lock = lock_of_readers(exposed)
                 name = lock + it.name.removeprefix(it.lock) if lock else it.name
                 yield self.hold((name, bool(lock), it.line))
+        yield from self.handlers(seen)
         for state in ("hard", "soft")[: 1 if violation.state == "hard" else 2]:
             since = seen.flags[state]
             if since:

@@ -8,7 +8,7 @@ import urllib.parse
 import xml.etree.ElementTree
 
 from .shown import name_of
-from .stories import Stories
+from .stories import Stories, calls
 from .streams import KINDS, must, same
 
 URI = re.compile(r"(?:file:///)?(?:[A-Za-z0-9._~/-]|%[0-9A-F]{2})*")
@@ -54,16 +54,15 @@ def title(violation):
 
 
 def pointed_at(case, violation, prefix):
-    """The file and the line that a violation points at: the innermost call in a file below the prefix, or else the
-    innermost call, or the line of the trace."""
+    """The file and the line that a violation points at: the innermost call with a line of source in a file below the
+    prefix, or else the innermost one with a line of source, or the line of the trace."""
     if violation.ends:
         line = case.facts.uses[violation.ends[1], "on", violation.state].line
     else:
         line = case.facts.dependencies[violation.steps[0]].line
-    if not isinstance(line.known, list):
-        return line.file, line.file_number
-    below = [it for it in line.known if it[2] is not None and it[1].startswith(f"{prefix}/")] if prefix else []
-    file, number = (below or [it for it in line.known if it[2] is not None and not prefix] or line.known)[0][1:]
+    found = [it[1:] for it in calls(line) if it[2] is not None]
+    below = [it for it in found if prefix and it[0].startswith(f"{prefix}/")]
+    file, number = [*below, *found, (line.file, line.file_number)][0]
     return (file.removeprefix(f"{prefix}/") if prefix else file), number
 
 
@@ -89,7 +88,7 @@ def sarif(case, prefix=""):
             for step in thread["locations"]:
                 physical(step["location"], prefix)
                 for frame in step.get("stack", {}).get("frames", ()):
-                    physical(frame["location"], prefix)
+                    called(frame["location"], prefix)
     fingerprints = [it["partialFingerprints"]["lockViolation/v1"] for it in run["results"]]
     told_by_sarif(case, run["results"], prefix)
     must(len(set(fingerprints)) == len(fingerprints), "fingerprints differ")
@@ -125,9 +124,14 @@ def flow_of(thread, prefix):
     for step in thread["locations"]:
         frames = step.get("stack", {}).get("frames", ())
         names = [it["location"]["logicalLocations"][0]["name"] for it in frames]
-        calls = [(name, *physical(it["location"], prefix)) for name, it in zip(names, frames)]
+        calls = [(name, *called(it["location"], prefix)) for name, it in zip(names, frames)]
         steps.append((step["location"]["message"]["text"], physical(step["location"], prefix), calls))
     return thread["message"]["text"], steps
+
+
+def called(location, prefix):
+    """File and line of a call, if it has a line of source."""
+    return physical(location, prefix) if "physicalLocation" in location else (None, None)
 
 
 def physical(location, prefix):
@@ -135,8 +139,8 @@ def physical(location, prefix):
     found = location["physicalLocation"]
     uri = found["artifactLocation"]["uri"]
     must(URI.fullmatch(uri), f"this is no URI: {uri!r}")
-    line = found.get("region", {}).get("startLine")
-    must(line is None or line > 0, "lines are counted from 1")
+    line = found["region"]["startLine"]
+    must(line > 0, "lines are counted from 1")
     path = urllib.parse.unquote(uri.removeprefix("file://"), errors="surrogateescape")
     return f"{prefix}/{path}" if prefix and not path.startswith("/") else path, line
 
@@ -189,7 +193,7 @@ def github(case, prefix=""):
         for (name, lines, spot), violation in zip(told, stories.violations):
             same((name, lines), (title(violation), stories.of(violation)), "what an error tells")
             file, number = pointed_at(case, violation, prefix)
-            same(spot, (file, str(number) if number else None), "where an error is")
+            same(spot, (file, str(number)), "where an error is")
     numbers = (len(case.violations), case.totals["traces"], case.totals["refused"])
     same(commands[-1][2], ["violations {}, traces {}, of which refused {}".format(*numbers)], "the notice")
 
@@ -239,7 +243,7 @@ def junit(case, prefix=""):
             lines = failure.text.removesuffix("\n").split("\n")
             same([it for it in lines if it not in MEANINGS], told_of(stories, group), "what a failure tells")
             file, line = pointed_at(case, group[0], prefix)
-            same((test.get("file"), test.get("line")), (file, str(line) if line else None), "where a failure is")
+            same((test.get("file"), test.get("line")), (file, str(line)), "where a failure is")
     for it in suite.findall("testcase/error"):
         for refused in case.refused:
             name = f"{shown(faulty(case, refused).label)} is refused: {refused.split(' ')[-1]}"

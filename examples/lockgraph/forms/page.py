@@ -188,8 +188,12 @@ class Told:
         text += f"Violations that share dependencies: {len(group)}."
         steps = [step for it in group for step in dict.fromkeys(it.steps)]
         most = max(dict.fromkeys(steps), key=steps.count)
-        text += f" Of them {steps.count(most)} have {pair(most)}:"
-        return text + " if these locks are taken the other way round, most are solved."
+        text += f" Of them {steps.count(most)} have {pair(most)} in the path that is shown. "
+        if most[0] == most[1]:
+            text += "Make one order for these locks and give the inner one another class, or hold one at a time. Then check"
+        else:
+            text += "Take these locks the other way round, and check"
+        return f"{text} again: other paths may remain."
 
     def article(self, violation):
         text = f"{violation.kind}{title(violation)}{violation.line}"

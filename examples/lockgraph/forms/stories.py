@@ -93,14 +93,23 @@ class Stories:
         found += [(f"in a {state} handler", line) for state, line in handlers]
         at = f"{seen.line.label}, task {seen.task}, {seen.line.file}:{seen.line.file_number}"
         found.append((f"{name_of(class_of)}: {at}", seen.line))
-        return [(text, spot(line), line.known if isinstance(line.known, list) else []) for text, line in found]
+        return [(text, spot(line), [call(*it) for it in calls(line)]) for text, line in found]
+
+
+def calls(line):
+    """The calls that led to a line, as far as a map names them."""
+    return line.known if isinstance(line.known, list) else []
+
+
+def call(function, file, line):
+    """A call, and its line of source. Without one its file is no file either."""
+    return (function, file, line) if line is not None else (function, None, None)
 
 
 def spot(line):
-    """Where a line comes from: the innermost call that has a line, or else the innermost, or the line of the trace."""
-    if not isinstance(line.known, list):
-        return line.file, line.file_number
-    return ([it for it in line.known if it[2] is not None] or line.known)[0][1:]
+    """Where a line comes from: the innermost call that has a line of source, or else the line of the trace."""
+    found = [it[1:] for it in calls(line) if it[2] is not None]
+    return found[0] if found else (line.file, line.file_number)
 
 
 def told(frame):

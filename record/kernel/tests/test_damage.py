@@ -1,4 +1,5 @@
 """Texts that can't be read: status 2, a message with the line's number, and nothing written."""
+import glob
 import os
 import subprocess
 import tempfile
@@ -163,6 +164,43 @@ class OtherFiles(unittest.TestCase):
                 self.refused((option, '/nowhere/file'), '/nowhere/file')
         self.refused(('--lines', '/nowhere/map'), '/nowhere/map')
 
+    def test_files_that_are_something_else(self):
+        # No stream is written, and they stay; one of the option is replaced, as is an empty one.
+        for option, kept, replaced in (('--lines', ('a\n', '1\nb\n', '\n'), ('', '7\n8\n')),
+                                       ('--map', ('a\n', '1\n', '#\n'), ('', 'places 1\nold\n'))):
+            for text in kept:
+                with self.subTest(option=option, text=text), file_with(text) as name:
+                    self.refused((option, name), "this isn't a file of " + option)
+                    with open(name) as file:
+                        self.assertEqual(file.read(), text)
+            for text in replaced:
+                with self.subTest(option=option, text=text), file_with(text) as name:
+                    self.assertEqual(run(GOOD, option, name).status, 0)
+                    with open(name) as file:
+                        self.assertNotIn(file.read(), ('', 'places 1\nold\n', '7\n8\n'))
+                    self.assertEqual(glob.glob(name + '?*'), [])
+        self.refused(('--lines', '/dev/null', '--map', '/dev/null'), 'a file each')
+
+    def test_files_that_are_no_regular_ones(self):
+        with tempfile.TemporaryDirectory() as folder:
+            link, target, pipe = (os.path.join(folder, name) for name in ('link', 'target', 'pipe'))
+            os.symlink(target, link)
+            self.assertEqual(run(GOOD, '--lines', link).status, 0)
+            self.assertTrue(os.path.islink(link) and os.path.getsize(target) > 0)
+            os.mkfifo(pipe)
+            reading = os.open(pipe, os.O_RDONLY | os.O_NONBLOCK)
+            self.assertEqual(run(GOOD, '--lines', pipe).status, 0)
+            with open(reading) as file, open(target) as same:
+                self.assertEqual(file.read(), same.read())
+            self.assertFalse(os.path.isfile(pipe))
+
+    def test_a_folder_of_a_text(self):
+        with file_with(GOOD) as name:
+            folder = os.path.dirname(name)
+            result = subprocess.run([CONVERT, folder], capture_output=True, text=True)
+        self.assertEqual((result.returncode, result.stdout), (2, ''))
+        self.assertIn(f'{folder}: a folder without raw pages: name the text in it, as {folder}/trace', result.stderr)
+
     def test_labels(self):
         for label in ('', 'two words', 'x' * 59, 'é'):
             with self.subTest(label=label):
@@ -174,8 +212,9 @@ class Program(unittest.TestCase):
     """The converter as a program of its own."""
 
     def test_standard_input(self):
-        end = subprocess.run([CONVERT], input=GOOD.encode(), capture_output=True)
-        self.assertEqual((end.returncode, end.stdout), (0, b'trace kernel\nacquire t-1 a@1000\n'))
+        for words in ([], ['-']):
+            end = subprocess.run([CONVERT, *words], input=GOOD.encode(), capture_output=True)
+            self.assertEqual((end.returncode, end.stdout), (0, b'trace kernel\nacquire t-1 a@1000\n'))
 
     def test_standard_input_is_read_again(self):
         # What is acquired first is known to have recursive readers by the last line.

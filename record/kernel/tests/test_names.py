@@ -1,8 +1,9 @@
 """Names of classes and of locks."""
 import unittest
 import zlib
+from unittest import mock
 
-from texts import acquire, file_with, release, run, stream
+from texts import CONVERT, HEADER, acquire, file_with, release, run, stream
 
 A, B, C, N = 0x1000, 0x2000, 0x3000, 0x4000  # addresses of locks
 
@@ -81,6 +82,30 @@ all lock classes:
                    acquire('a', C, task='<...>-4194304')),
             ['acquire kworker/0:1-8 a@1000', 'release kworker/0:1-8 a@1000', 'acquire two%20words-9 a@1000',
              'acquire x-1]%20[000]-10 a@2000', 'acquire <...>-4194304 a@3000'])
+
+    def test_names_of_tasks_with_line_ends(self):
+        # prctl sets any name. A line of the stream is of the last of its lines.
+        text = HEADER + ''.join((acquire('a', A, task='a\nb-12'), acquire('b', B, task='t-1'), release(A, task='a\nb-12'),
+                                 acquire('a', A, task='\n\n => [0] 1: c-7'), acquire('c', C, task='\n12345678901234-8'),
+                                 acquire('d', N, task='123456789012345-9')))
+        lines = ['acquire a%0Ab-12 a@1000', 'acquire t-1 b@2000', 'release a%0Ab-12 a@1000',
+                 'acquire =>%20[0]%201:%20c-7 a@1000', 'acquire 12345678901234-8 c@3000',
+                 'acquire 123456789012345-9 d@4000']
+        for count in range(1, 24):
+            with mock.patch.object(CONVERT, 'LINES_AT_ONCE', count), file_with('') as name:
+                result = run(text, '--lines', name)
+                self.assertEqual((result.status, result.stream[1:]), (0, lines), result.errors)
+                with open(name) as numbers:
+                    self.assertEqual(numbers.read().split()[1:], ['14', '15', '17', '20', '22', '23'])
+
+    def test_a_name_that_goes_on_for_too_long(self):
+        for name in ('a\n', ' \n', '\n\n'):
+            for text in (HEADER + acquire('a', A) + ' ' * 12 + name,
+                         HEADER + acquire('a', A) + ' ' * 12 + name + acquire('b', B)):
+                with self.subTest(text=text):
+                    result = run(text)
+                    self.assertEqual((result.status, result.stream), (2, []))
+                    self.assertRegex(result.errors, 'line 1[456]: (no line of a recording|an empty line)')
 
     def test_idle_tasks_are_one_for_each_processor(self):
         self.assertEqual(

@@ -44,7 +44,14 @@ class Compare(unittest.TestCase):
         return program
 
     def test_lockdep_and_lockcheck_agree(self):
+        for name in ('stream', 'report'):
+            with open(self.path(name), 'w') as file:
+                file.write('of before\n')
         self.assertEqual(self.compare('recursion')[:2], (0, 'plant: recursion: lockdep and lockcheck agree\n'))
+        for name in ('stream', 'report'):
+            with open(self.path(name)) as file:
+                self.assertEqual(file.read(), 'of before\n')
+        self.assertEqual({name for name in os.listdir(self.folder) if 'plant' in name}, {'plant.stream', 'plant.report'})
 
     def test_another_fault_is_in_neither(self):
         status, out, errors = self.compare('hard')

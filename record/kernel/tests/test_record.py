@@ -251,11 +251,20 @@ class Record(unittest.TestCase):
         self.assertEqual(status, 0)
         self.assertIn('8 events were dropped', said)
 
-    def test_stop_overwrites_no_recording(self):
-        self.write('out/trace', 'another\n')
-        status, said = self.stop(0)
-        self.assertEqual((status, self.read('out/trace')), (2, 'another\n'))
-        self.assertIn('another folder', said)
+    def test_stop_overwrites_nothing(self):
+        for name in ('trace', 'lockdep', 'lockdep_chains', 'dmesg', 'stats'):
+            with self.subTest(name=name):
+                self.write('out/' + name, 'another\n')
+                status, said = self.stop(0)
+                self.assertEqual((status, os.listdir(self.folder + '/out')), (2, [name]))
+                self.assertEqual(self.read('out/' + name), 'another\n')
+                self.assertIn('another folder', said)
+                os.remove(self.folder + '/out/' + name)
+
+    def test_stop_again_after_one_that_failed(self):
+        self.write('out/stats', 'cpu0\nof the first stop\n')
+        self.assertEqual(self.stop(0)[0], 0)
+        self.assertNotIn('first', self.read('out/stats'))
 
     def test_other_words(self):
         for words in ((), ('begin',), ('start', 'x'), ('start', '1', '2'), ('stop',), ('stop', ''), ('stop', 'a', 'b'),

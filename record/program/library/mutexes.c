@@ -37,7 +37,7 @@ EXPORTED int pthread_mutex_unlock(pthread_mutex_t *mutex)
     give_back(mutex, HERE);
     int answer = NEXT(pthread_mutex_unlock)(mutex);
     if (answer != 0)
-        record(RECORD_UNDO, mutex);
+        record(RECORD_REFUSED, mutex);
     return answer;
 }
 
@@ -52,7 +52,7 @@ static void cancelled(void *mutex)
 static int waited(const void *mutex, int answer, const struct frame *frame)
 {
     if (answer == EPERM || answer == EINVAL)
-        record(RECORD_UNDO, mutex);
+        record(RECORD_REFUSED, mutex);
     else if (answer != ENOTRECOVERABLE)
         record_got(RECORD_ACQUIRE, mutex, frame);
     return answer;
@@ -113,7 +113,7 @@ EXPORTED int mtx_unlock(mtx_t *mutex)
     give_back((const pthread_mutex_t *)mutex, HERE);
     int answer = NEXT(mtx_unlock)(mutex);
     if (answer != thrd_success)
-        record(RECORD_UNDO, mutex);
+        record(RECORD_REFUSED, mutex);
     return answer;
 }
 
@@ -122,7 +122,7 @@ static int waited_c11(const void *mutex, int answer, const struct frame *frame)
     if (answer == thrd_success || answer == thrd_timedout)
         record_got(RECORD_ACQUIRE, mutex, frame);
     else
-        record(RECORD_UNDO, mutex);
+        record(RECORD_REFUSED, mutex);
     return answer;
 }
 

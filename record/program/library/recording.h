@@ -26,7 +26,7 @@ enum operation {
     RECORD_ACQUIRE, /* [lock] was got by a call that may have waited */
     RECORD_TRY,     /* [lock] was got by a call that couldn't wait */
     RECORD_RELEASE, /* [lock] is about to be given back */
-    RECORD_UNDO,    /* [lock] wasn't given back: the call for it failed */
+    RECORD_REFUSED, /* [lock] wasn't given back: the call for the release before this one failed */
     RECORD_PLACE,   /* [address] is a place of the program; `struct told_place` follows */
     RECORD_WAIT,    /* [lock] wasn't free: the thread begins to wait for it; where it wasn't told yet,
                        the calls that led there follow */

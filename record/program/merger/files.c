@@ -103,10 +103,13 @@ const struct unit *unit_at(const struct recording *recording, uint32_t unit)
 static void place_record(struct recording *recording, uint64_t head, struct place place)
 {
     uint64_t number = HEAD_NUMBER(head);
-    if (place.task == 0 || number >= recording->place_count || recording->places[number].unit)
+    if (place.task == 0 || number >= recording->place_count || recording->places[number].unit) {
         totals.damaged++;
-    else
-        recording->places[number] = place;
+        return;
+    }
+    recording->places[number] = place;
+    if (HEAD_OPERATION(head) == RECORD_REFUSED)
+        note_refused(number);
 }
 
 /* Keeps a record, with the others in the order in which they stand in the file. */
@@ -142,8 +145,8 @@ static void place_chunk(struct recording *recording, size_t at, bool only_long)
     }
 }
 
-/* Puts the records of all threads in the order of their numbers. Each record drew one number, so
-   there are no more numbers than units. */
+/* Puts the records of all threads in the order of their numbers, but for releases that were refused. Each record
+   drew one number, so there are no more numbers than units. */
 void place_records(struct recording *recording)
 {
     recording->place_count = 0;
@@ -152,6 +155,7 @@ void place_records(struct recording *recording)
     recording->places = must(calloc(recording->place_count + 1, sizeof *recording->places));
     for (size_t at = CHUNK_BYTES; at + CHUNK_BYTES <= recording->length; at += CHUNK_BYTES)
         place_chunk(recording, at, false);
+    leave_out_refused(recording);
 }
 
 static const struct recording *sorted;

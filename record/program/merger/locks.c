@@ -49,7 +49,6 @@ void copy_locks(struct locks *to, const struct locks *from)
         to->all[number] = from->all[number];
         to->all[number].holder = 0;
         to->all[number].readers = 0;
-        to->all[number].undo = UNDO_NOTHING;
     }
     to->slots = must(malloc((from->slot_count + 1) * sizeof *to->slots));
     for (size_t slot = 0; slot < from->slot_count; slot++)

@@ -121,10 +121,10 @@ static bool is_file(FILE *file)
     return fstat(fileno(file), &status) == 0 && S_ISREG(status.st_mode);
 }
 
-/* Gives how long the stream is, or -1 if it isn't whole. */
+/* Gives how long the stream is, or -1 if it isn't whole. A pipe doesn't tell how much went into it. */
 static int64_t close_stream(const char *path)
 {
-    int64_t bytes = ftello(stream);
+    int64_t bytes = is_file(stream) ? ftello(stream) : 0;
     bool whole = !ferror(stream);
     if (fclose(stream) == 0 && whole)
         return bytes;

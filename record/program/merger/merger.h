@@ -106,9 +106,6 @@ struct class {
     uint64_t under_itself;    /* how often one of its locks was taken under another */
 };
 
-/* What the latest release of a lock changed, for the case that it failed. */
-enum undo { UNDO_NOTHING, UNDO_LEVEL, UNDO_HOLD };
-
 /* Mistakes that aren't ones of order. */
 enum misuse {
     MISUSE_OTHER,     /* a lock was given back by a thread that doesn't hold it */
@@ -127,11 +124,7 @@ struct lock {
     uint32_t holder;  /* the task that has it alone, or 0 */
     uint32_t readers; /* how many times it is held by tasks that share it */
     uint32_t level;
-    uint32_t last_holder;
-    uint32_t last_place; /* of the program, where that took it */
     const struct unit *frames; /* of the calls that are about to take it first */
-    enum undo undo;
-    size_t misuse; /* the number of the mistake that its latest release was, or 0 */
 };
 
 /* That a task holds a lock. */
@@ -229,6 +222,10 @@ void place_records(struct recording *recording);
 void place_long_records(struct recording *recording);
 bool still_runs(const struct recording *all, size_t count, size_t which);
 const struct unit *unit_at(const struct recording *recording, uint32_t unit);
+
+/* refused.c */
+void note_refused(uint64_t number);
+void leave_out_refused(struct recording *recording);
 
 /* binaries.c */
 extern struct binary **binaries;
@@ -342,8 +339,7 @@ uint32_t next_holder(uint32_t task, const struct locks *locks, const struct lock
 size_t held_by(uint32_t task, const struct hold **held);
 
 /* misuse.c */
-size_t note_misuse(enum misuse how, const struct class *class, const struct class *other, uint32_t place);
-void take_back_misuse(size_t number);
+void note_misuse(enum misuse how, const struct class *class, const struct class *other, uint32_t place);
 void say_misuse(void);
 
 /* waits.c */

@@ -19,29 +19,20 @@ static struct misused *all;
 static size_t count, room;
 static uint64_t more;
 
-/* Gives a number by which the mistake can be taken back, or 0. */
-size_t note_misuse(enum misuse how, const struct class *class, const struct class *other, uint32_t place)
+void note_misuse(enum misuse how, const struct class *class, const struct class *other, uint32_t place)
 {
     for (size_t number = 0; number < count; number++)
         if (all[number].how == how && all[number].class == class && all[number].other == other &&
             all[number].place == place) {
             all[number].count++;
-            return number + 1;
+            return;
         }
     if (count == MOST_SAID) {
         more++;
-        return 0;
+        return;
     }
     all = grown(all, count, &room, sizeof *all);
     all[count++] = (struct misused){how, class, other, place, 1};
-    return count;
-}
-
-/* The call was refused, and the program was told so. */
-void take_back_misuse(size_t number)
-{
-    if (number)
-        all[number - 1].count--;
 }
 
 static void say_one(const struct misused *misused)
@@ -77,8 +68,7 @@ static void say_one(const struct misused *misused)
 void say_misuse(void)
 {
     for (size_t number = 0; number < count; number++)
-        if (all[number].count)
-            say_one(&all[number]);
+        say_one(&all[number]);
     if (more)
         say("%" PRIu64 " times locks were misused in still other places", more);
 }

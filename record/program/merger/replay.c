@@ -24,7 +24,6 @@ static void begin_lock(struct lock *lock, struct class *class)
     end_holds(lock);
     lock->class = class && settings.has_instances ? class_of_instance(class) : class;
     lock->instance = lock->class ? ++lock->class->instances : 0;
-    lock->undo = UNDO_NOTHING;
 }
 
 static void on_first(uint64_t address, const struct unit *first, unsigned following)
@@ -71,14 +70,12 @@ static void on_got(enum operation operation, uint32_t task, const struct unit *f
 static void note_release(enum operation operation, uint32_t task, struct lock *lock, uint32_t place)
 {
     bool is_held = lock->holder || lock->readers;
-    lock->misuse = 0;
     if (does_hold(task, &locks, lock))
         return;
     if (operation == RECORD_RELEASE_OTHER)
-        lock->misuse = note_misuse(is_held ? MISUSE_OTHER : MISUSE_FREE, lock->class, NULL, place);
+        note_misuse(is_held ? MISUSE_OTHER : MISUSE_FREE, lock->class, NULL, place);
     else if (operation == RECORD_RELEASE_ANY && is_held)
-        lock->misuse = note_misuse(MISUSE_UNTOLD, lock->class, NULL,
-                                   place_of_hold(next_holder(0, &locks, lock), &locks, lock));
+        note_misuse(MISUSE_UNTOLD, lock->class, NULL, place_of_hold(next_holder(0, &locks, lock), &locks, lock));
 }
 
 /* Notes a wait on a condition by a task that holds another lock than the one it gives back. */
@@ -87,9 +84,9 @@ static void note_condition(uint32_t task, struct lock *lock, uint32_t place)
     const struct hold *held;
     size_t count = held_by(task, &held);
     if (count && &locks.all[held[count - 1].lock] != lock)
-        lock->misuse = note_misuse(MISUSE_CONDITION, lock->class, locks.all[held[count - 1].lock].class, place);
+        note_misuse(MISUSE_CONDITION, lock->class, locks.all[held[count - 1].lock].class, place);
     else if (count > 1)
-        lock->misuse = note_misuse(MISUSE_CONDITION, lock->class, locks.all[held[count - 2].lock].class, place);
+        note_misuse(MISUSE_CONDITION, lock->class, locks.all[held[count - 2].lock].class, place);
 }
 
 /* Whoever gives the lock back: it is its holder's no more. Who reads it gives back what it has of its own. */
@@ -106,25 +103,9 @@ static void on_release(enum operation operation, uint32_t task, const struct uni
         write_released(reader, lock, &locks);
     } else if (lock->holder && lock->level > 1) {
         lock->level--;
-        lock->undo = UNDO_LEVEL;
     } else if (lock->holder) {
         write_released(lock->holder, lock, &locks);
-        lock->undo = UNDO_HOLD;
     }
-}
-
-static void on_undo(uint64_t address)
-{
-    struct lock *lock = find_lock(&locks, address, false);
-    if (!lock)
-        return;
-    if (lock->undo == UNDO_LEVEL && lock->holder)
-        lock->level++;
-    if (lock->undo == UNDO_HOLD && !lock->holder)
-        write_got(taking_by(RECORD_TRY), lock->last_holder, &locks, lock, lock->last_place);
-    lock->undo = UNDO_NOTHING;
-    take_back_misuse(lock->misuse);
-    lock->misuse = 0;
 }
 
 /* A mutex that is held can't be destroyed; other locks, and those of C11, are all the same. */
@@ -208,9 +189,6 @@ static void step(const struct unit *first, uint32_t task)
     case RECORD_RELEASE_ANY:
     case RECORD_CONDITION:
         on_release(operation, task, first);
-        break;
-    case RECORD_UNDO:
-        on_undo(first->value);
         break;
     default:
         totals.damaged++;

@@ -326,18 +326,15 @@ void write_released(uint32_t number, struct lock *lock, struct locks *locks)
 {
     struct task *task = task_at(number);
     size_t place = find_hold(task, (uint32_t)(lock - locks->all));
-    if (lock->holder == number) {
-        lock->last_holder = number;
+    if (lock->holder == number)
         lock->holder = 0;
-    } else if (lock->readers > 0) {
+    else if (lock->readers > 0)
         lock->readers--;
-    }
     if (place == 0)
         return;
     struct hold hold = task->held[place - 1];
     memmove(&task->held[place - 1], &task->held[place], (task->held_count - place) * sizeof *task->held);
     task->held_count--;
-    lock->last_place = hold.place;
     if (!hold.is_written)
         return;
     task->written -= locks_of(&hold);

@@ -4,7 +4,7 @@
  * A lock that is released by another thread than its holder's is held no more.
  *
  * Report:
- * traces 1 refused 0 events 32 classes 9 dependencies 4
+ * traces 1 refused 0 events 30 classes 9 dependencies 4
  * clean
  */
 #define _GNU_SOURCE
@@ -44,8 +44,7 @@ static void share(void)
     must(pthread_rwlock_unlock(&shared) == 0);
 }
 
-/* 2 events: of what is refused nothing is written, but that a release is refused is known only after
-   it was, so a `try` takes it back. */
+/* No event: of what is refused nothing is written. */
 static void *refused(void *nothing)
 {
     must(pthread_mutex_unlock(&checked) == EPERM);

@@ -4,7 +4,7 @@
  * waits alone, and `other` under `queue` by a trylock alone, so there is no inversion.
  *
  * Report:
- * traces 1 refused 0 events 22 classes 2 dependencies 1
+ * traces 1 refused 0 events 20 classes 2 dependencies 1
  * clean
  */
 #define _GNU_SOURCE
@@ -30,7 +30,7 @@ static void wait_under_other(void)
     must(pthread_mutex_unlock(&queue) == 0);
 }
 
-/* 4 events: the wait is refused, and the lock was held on, which the stream says by a `try`. */
+/* 2 events: the wait is refused, and the lock is held on. */
 static void wait_for_nothing(void)
 {
     static const struct timespec no_time = {0, -1};

@@ -5,7 +5,7 @@ import signal
 import subprocess
 import sys
 
-from planting import RUN, lockcheck, must, record, said
+from planting import COMPILERS, RUN, Planted, call, lockcheck, must, record, said
 
 
 def check_statuses(directory):
@@ -60,6 +60,28 @@ def check_early_signal(directory):
     answer = record(os.path.join(directory, "early.trace"), "early", ["sleep", "30"],
                     env=os.environ | {"PYTHONPATH": directory})
     must(answer.returncode == -signal.SIGTERM, "a SIGTERM at the start didn't go on to the program")
+
+
+def check_sanitizers(directory):
+    """A program with a sanitizer is recorded as the same one without, also if there are options for the sanitizer."""
+    planted = Planted("inversion.c")
+    for name in ("address", "thread", "undefined", "leak"):
+        program = os.path.join(directory, f"by-{name}", "inversion")
+        os.mkdir(os.path.dirname(program))
+        flag = f"-fsanitize={name}"
+        if call([*COMPILERS[".c"], flag, "-x", "c", "-o", program, "-"], input="int main(void) { return 0; }").returncode:
+            continue
+        planted.compile([flag], program)
+        alone = call([program])
+        if alone.returncode:  # this sanitizer doesn't run here
+            continue
+        for options in ({}, {"ASAN_OPTIONS": "detect_leaks=0"}):
+            answer = record(program + ".trace", "inversion", [program], env=os.environ | options)
+            said(answer)
+            must((answer.returncode, answer.stdout, answer.stderr) == (0, alone.stdout, alone.stderr), f"{name}: {answer}")
+            with open(program + ".trace", encoding="ascii") as lines:
+                report = lockcheck(lines.read()).stdout
+            must(planted.matches(report), f"{name}: {report}")
 
 
 def check_no_space(directory):

@@ -3,6 +3,7 @@
 import os
 import shutil
 import signal
+import subprocess
 
 from building import HERE, OUT
 from planting import RUN, SAYS, call, must, record, said
@@ -12,9 +13,9 @@ NO_LOCK = SAYS + "no process took a lock that the recorder sees: no report on th
 
 def old(path):
     """Makes what an earlier recording left."""
-    for name in (path, path + ".places"):
+    for name, text in ((path, "trace old\n"), (path + ".places", "places 1\n")):
         with open(name, "w", encoding="ascii") as file:
-            file.write("trace old\n")
+            file.write(text)
 
 
 def check_old_stream(directory):
@@ -31,6 +32,87 @@ def check_old_stream(directory):
     record(link, "old", ["true"])
     with open(stream, encoding="ascii") as lines:
         must(os.path.islink(link) and "old" not in lines.read(), "a link isn't followed to the stream")
+
+
+# What a user's file may be, and what is replaced: nothing yet, or a stream.
+KEPT = ("notes\n", "#include <stdio.h>\nint main(void) { return 0; }\n", "#!/bin/sh\ntrue\n", "# a note\n",
+        "\ntraces 1\n", "\x7fELF")
+REPLACED = ("", "trace old\n", "# a note\n\n \t# another\n\ttrace old\n", "# process 1 /bin/true\n")
+
+
+def check_other_files(directory):
+    """A file that is neither empty nor a stream stays, and the program doesn't run. So does one in the place of
+    the map."""
+    stream, ran = os.path.join(directory, "users-own"), os.path.join(directory, "users-ran")
+    for path, texts, name in ((stream, KEPT, "a stream"), (stream + ".places", KEPT + ("trace old\n",), "a map")):
+        for text in texts:
+            with open(path, "w", encoding="ascii") as file:
+                file.write(text)
+            answer = record(stream, "other", ["touch", ran])
+            said_so = f"{SAYS}{path}: this isn't {name}, so it stays: name another file with -o, or remove it\n"
+            must((answer.returncode, answer.stderr) == (125, said_so), f"{text!r}: {answer}")
+            with open(path, encoding="ascii") as file:
+                must(file.read() == text and not os.path.exists(ran), f"{text!r} is replaced, or the program ran")
+        os.unlink(path)
+    for text in REPLACED:
+        with open(stream, "w", encoding="ascii") as file:
+            file.write(text)
+        must(record(stream, "other", ["true"]).returncode == 0, f"{text!r} isn't replaced")
+        with open(stream, encoding="ascii") as file:
+            must("trace old" not in file.read(), f"{text!r} isn't replaced")
+
+
+def check_standard_output(directory):
+    """A stream doesn't take the place of what the program prints. It goes into a pipe, also into one of another
+    descriptor."""
+    printed, inversion = os.path.join(directory, "printed"), os.path.join(directory, "inversion-0", "inversion")
+    for stream, text in (("/dev/stdout", "the program's output goes there: name another file with -o"),
+                         (printed, "the program's output goes there: name another file with -o"),
+                         ("-", "standard output is the program's: name a file with -o")):
+        with open(printed, "w", encoding="ascii") as file:
+            answer = subprocess.run([RUN, "-o", stream, "echo", "words"], stdout=file, stderr=subprocess.PIPE,
+                                    text=True, check=False, cwd=directory)
+        must((answer.returncode, answer.stderr) == (125, f"{SAYS}{stream}: {text}\n"), f"{stream}: {answer}")
+        must(os.path.exists(printed) and not os.path.exists(os.path.join(directory, "-")), f"{stream}: files")
+    reading, writing = os.pipe()
+    into_own = record("/dev/stdout", "pipe", [inversion])
+    into_other = record(f"/dev/fd/{writing}", "pipe", [inversion], pass_fds=[writing])
+    os.close(writing)
+    with open(reading, encoding="ascii") as file:
+        for answer, text in ((into_own, into_own.stdout), (into_other, file.read())):
+            must(answer.returncode == 0 and "\ntrace pipe-1\n" in text, f"a stream into a pipe: {answer} {text}")
+
+
+def check_not_started(directory):
+    """A program that can't be started is said so in words, as a shell does by its status, and an earlier recording
+    stays."""
+    folder = os.path.join(directory, "not-started")
+    os.mkdir(folder)
+    stream = os.path.join(folder, "stream")
+    old(stream)
+
+    def made(name, text, mode):
+        path = os.path.join(folder, name)
+        with open(path, "w", encoding="ascii") as file:
+            file.write(text)
+        os.chmod(path, mode)
+        return path
+
+    programs = (
+        ("./there-is-none", 127, "there is no such program"),
+        ("there-is-none", 127, "there is no such program"),
+        (folder, 126, "is a folder"),
+        (made("text", "#!/bin/sh\n", 0o644), 126, "isn't executable"),
+        (made("nothing", "true\n", 0o755), 126, "can't be started: it is no program, and has no #! line"),
+        (made("no-shell", "#!/nowhere/sh\n", 0o755), 127, "what interprets or loads it isn't there"),
+    )
+    files = sorted(os.listdir(folder))
+    for program, status, text in programs:
+        answer = record(stream, "none", [program])
+        must((answer.returncode, answer.stderr) == (status, f"{SAYS}{program}: {text}\n"), f"{program}: {answer}")
+        with open(stream, encoding="ascii") as file, open(stream + ".places", encoding="ascii") as places:
+            must((file.read(), places.read()) == ("trace old\n", "places 1\n"), f"{program}: the recording is lost")
+        must(sorted(os.listdir(folder)) == files, f"{program}: the files are {os.listdir(folder)}")
 
 
 def check_no_folder(directory):
@@ -100,7 +182,7 @@ exec cp OUT/liblockrecord.so "$target"
 def copy_of_recorder(folder):
     """Copies what `run` needs into a new folder, and gives the copy of `run`."""
     os.mkdir(folder)
-    for name in ("run", "building.py"):
+    for name in ("run", "building.py", "stream.py"):
         shutil.copy(os.path.join(HERE, name), folder)
     for name in ("library", "merger"):
         shutil.copytree(os.path.join(HERE, name), os.path.join(folder, name))
