@@ -9,9 +9,9 @@ mod devices;
 #[cfg(test)]
 mod fakes;
 #[cfg(test)]
-mod report;
-#[cfg(test)]
 mod pieces;
+#[cfg(test)]
+mod report;
 #[cfg(test)]
 mod run;
 #[cfg(test)]
