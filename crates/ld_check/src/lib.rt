@@ -3,7 +3,9 @@
 #![tactic(auto)]
 
 mod checked;
+mod reading;
 mod report;
+mod running;
 mod runs;
 
 pub use checked::{CheckFault, Checked, MOST_WORKERS, check};

@@ -53,7 +53,7 @@ pub fn report_of<G: Gate + Sync, R: Threads + Wait + Sync>(
 }
 
 /// The report of the traces that a book lists, with what it comes to.
-fn report_on(alloc: Global, book: &Book<'_>) -> Result<Report, CheckFault>
+pub(crate) fn report_on(alloc: Global, book: &Book<'_>) -> Result<Report, CheckFault>
     ensures text { IfOk result (λ report. IsReport book.now report.text.items) }
     ensures verdict { IfOk result (λ report. VerdictIs book.now report.verdict) }
     ensures memory { IfErr result (λ fault. fault ≡ CheckFault.Memory) }

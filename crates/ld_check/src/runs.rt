@@ -9,12 +9,11 @@ ghost use Rattle.ld_report.specs.Verdict.{VerdictIs};
 ghost use Rattle.ld_check.specs.Run.{Answers, Refuses};
 
 use crate::checked::{CheckFault, MOST_WORKERS};
-use crate::report::report_of;
-use ld_io::{Input, MOST_READ, Output, ReadFault, read_all, send};
+use crate::running::report_while;
+use ld_io::{Input, MOST_READ, Output, ReadFault, send};
 use ld_report::Verdict;
 use ld_trace::StreamFault;
-use ld_work::NoGate;
-use std::alloc::Global;
+use std::alloc::{AllocError, Global};
 use std::sync::Wait;
 use std::thread::Threads;
 use thiserror::Error;
@@ -89,8 +88,7 @@ pub fn run<I: Input, O: Output, R: Threads + Wait + Sync>(
     // Of any input no more than this is read.
     ensures most { ConsumesAtMost (I.left input.old) (I.left input.new) MOST_READ }
 {
-    let bytes = read_all(alloc, input)?;
-    let report = report_of(rt, alloc, &bytes, workers, &NoGate)?;
+    let report = report_while(rt, alloc, input, workers)?;
     match send(output, &report.text) {
         Ok(()) => Ok(report.verdict),
         Err(_) => Err(RunFault::Write),
@@ -107,6 +105,16 @@ impl From<ReadFault> for RunFault {
             ReadFault::Read => RunFault::Read,
             ReadFault::Memory => RunFault::Memory,
         }
+    }
+}
+
+impl From<AllocError> for RunFault {
+    ghost use Rattle.ld_check.specs.declared.runs.RunFault.TheVariants.{Memory};
+
+    ghost from_gives = { λ _ fault. fault ≡ Memory };
+
+    fn from(_refusal: AllocError) -> RunFault {
+        RunFault::Memory
     }
 }
 

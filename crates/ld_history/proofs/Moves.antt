@@ -1,24 +1,25 @@
 -- Each step keeps the rule.
-use Rattle.std.proofs.Common.{◌≡◌, ◌≢◌, ◌⊎◌, ℕ, zero, suc, List, [], ◌∷◌, ◌++◌, length, set, true, false, true≢false, refl, sym, ap, ◌∙◌, subst, ⊎_elim, append_assoc, append-nil, length-set}
+use Rattle.std.proofs.Common.{◌≡◌, ◌≢◌, ℕ, zero, suc, List, [], ◌∷◌, ◌++◌, length, set, true, false, true≢false, refl, sym, ap, ◌∙◌, subst, ⊎_elim, append_assoc, append-nil, length-set}
 use mathlib.Core.Option.{some, some-ne-none, some-injective}
 use mathlib.Core.List.{IsPrefix}
 use lib.ListN.{get_elem?}
 use Rattle.atomic_table.proofs.Lists.{at_set, at_snoc, set_again}
-use Rattle.atomic_table.specs.Table.{State, Me, keeps, opening, Allows, Splits, Joins}
+use Rattle.atomic_table.specs.Table.{Me, keeps, opening, Allows, Splits, Joins}
+use Rattle.ld_history.specs.declared.rule.Entry.{Entry}
 use Rattle.ld_history.specs.declared.rule.View.{View}
 use Rattle.ld_history.specs.Rule.{IsKept, Fits, keeper, reader, longer, beside}
 
 off : false ≡ true → ⊥
 off e = true≢false (sym e)
 
-pub prefix_nil : (xs : List ℕ) → IsPrefix [] xs
+pub prefix_nil : (xs : List Entry) → IsPrefix [] xs
 prefix_nil xs = (xs, refl)
 
-pub prefix_more : (xs ys zs : List ℕ) → IsPrefix xs ys → IsPrefix xs (ys ++ zs)
+pub prefix_more : (xs ys zs : List Entry) → IsPrefix xs ys → IsPrefix xs (ys ++ zs)
 prefix_more xs ys zs p = (p.0 ++ zs, sym (append_assoc xs p.0 zs) ∙ ap (λ w. w ++ zs) p.1)
 
 -- the views after one of them has changed, and the history with it
-fits_set : (seat : ℕ) (log : List ℕ) (views : List View) (by : ℕ) (w : View) → ((j : ℕ) (u : View) → j ≢ by → get_elem? views j ≡ some u → Fits seat log j u) → Fits seat log by w
+fits_set : (seat : ℕ) (log : List Entry) (views : List View) (by : ℕ) (w : View) → ((j : ℕ) (u : View) → j ≢ by → get_elem? views j ≡ some u → Fits seat log j u) → Fits seat log by w
     → (j : ℕ) (u : View) → get_elem? (set views by w) j ≡ some u → Fits seat log j u
 fits_set seat log views by w others mine j u e =
     ⊎_elim
@@ -27,7 +28,7 @@ fits_set seat log views by w others mine j u e =
     (at_set views by j w u e)
 
 -- a view that keeps nothing
-reads : (seat : ℕ) (log : List ℕ) (by : ℕ) (seen : List ℕ) → IsPrefix seen log → Fits seat log by (reader seen)
+reads : (seat : ℕ) (log : List Entry) (by : ℕ) (seen : List Entry) → IsPrefix seen log → Fits seat log by (reader seen)
 reads seat log by seen p = ((λ k. absurd (off k)), p)
 
 pub begins : (words : List ℕ) → length words ≡ 1 → IsKept (opening words [] (keeper []))
@@ -37,19 +38,19 @@ begins words one = record { word = one; seat = 0; log = []; fits = first }
     first zero v e = subst (Fits 0 [] 0) (some-injective _ _ e) ((λ _. (refl, refl)), prefix_nil [])
     first (suc by) v e = absurd (some-ne-none v (sym e))
 
-pub appends : (slots id : ℕ) (me : Me (Unit {0}) View) (n : ℕ) → me.0.keeps ≡ true
-    → Allows IsKept slots id me 0 (λ _. n) (λ _ after. after ≡ (longer me.0 n, me.1))
-appends slots id me n keeping s h _ at _ =
+pub appends : (slots id : ℕ) (me : Me (Unit {0}) View) (word : ℕ) (n : Entry) → me.0.keeps ≡ true
+    → Allows IsKept slots id me 0 (λ _. word) (λ _ after. after ≡ (longer me.0 n, me.1))
+appends slots id me word n keeping s h _ at _ =
     let v : View = me.0 in
     let own = h.fits id v at in
     let mine = own.0 keeping in
     let w : View = longer v n in
-    let log : List ℕ = h.log ++ n ∷ [] in (
+    let log : List Entry = h.log ++ n ∷ [] in (
       w,
       keeps,
       tt,
       record {
-        word = length-set s.words 0 n ∙ h.word;
+        word = length-set s.words 0 word ∙ h.word;
         seat = h.seat;
         log = log;
         fits = fits_set h.seat log s.views id w
@@ -78,7 +79,7 @@ checks slots id me keeping s h _ at _ =
     )
 
 -- a seat gives a new one what it may have seen
-forks : (id : ℕ) (v : View) (seen : List ℕ) → ((seat : ℕ) (log : List ℕ) → Fits seat log id v → IsPrefix seen log) → Splits IsKept id v v (reader seen)
+forks : (id : ℕ) (v : View) (seen : List Entry) → ((seat : ℕ) (log : List Entry) → Fits seat log id v → IsPrefix seen log) → Splits IsKept id v v (reader seen)
 forks id v seen may s h at = record {
   word = h.word;
   seat = h.seat;

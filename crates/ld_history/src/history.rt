@@ -2,7 +2,7 @@
 ghost use Rattle.std.specs.Prelude.{◌≡◌, ◌++◌, ◌∷◌, [], Some};
 ghost use mathlib.Core.List.{IsPrefix};
 
-use crate::rule::{Append, Beside, Check, Copied, Grows, Shown, View};
+use crate::rule::{Append, Beside, Check, Copied, Grows, Noted, Shown, View};
 use atomic_table::{Seat, Table};
 use std::alloc::{AllocError, Global};
 use std::marker::{Brand, Model, PhantomData};
@@ -76,9 +76,10 @@ pub struct Keeper<B: Room> {
 }
 
 impl<B: Room> Model for Keeper<B> {
-    ghost use Rattle.std.specs.Prelude.{◌≡◌, List, ℕ, [], Some, true};
+    ghost use Rattle.std.specs.Prelude.{◌≡◌, List, [], Some, true};
+    ghost use Rattle.ld_history.specs.declared.rule.Entry.{Entry};
 
-    ghost Value = { List ℕ };
+    ghost Value = { List Entry };
 
     ghost view = { λ k. k.seat.me.0.all };
 
@@ -96,9 +97,10 @@ pub struct Front<B: Room> {
 }
 
 impl<B: Room> Model for Front<B> {
-    ghost use Rattle.std.specs.Prelude.{◌≡◌, List, ℕ, [], Some};
+    ghost use Rattle.std.specs.Prelude.{◌≡◌, List, [], Some};
+    ghost use Rattle.ld_history.specs.declared.rule.Entry.{Entry};
 
-    ghost Value = { List ℕ };
+    ghost Value = { List Entry };
 
     ghost view = { λ f. f.seat.me.0.seen };
 
@@ -106,12 +108,12 @@ impl<B: Room> Model for Front<B> {
 }
 
 impl<B: Room> Keeper<B> {
-    /// The history is longer by this number. Takes no memory.
-    pub fn add(&mut self, number: u64)
-        ensures { self.new ≡ self.old ++ number ∷ [] }
+    /// The history is longer by what is noted. Takes no memory.
+    pub fn add<N: Noted>(&mut self)
+        ensures { self.new ≡ self.old ++ N.entry ∷ [] }
     {
         let table = &self.table;
-        table.shared.store::<Append>(&mut self.seat, 0, number);
+        table.shared.store::<Append<N>>(&mut self.seat, 0, 0);
     }
 
     /// The history so far, for a thread to take along. Takes no memory.

@@ -6,3 +6,4 @@ mod history;
 mod rule;
 
 pub use history::{Front, Keeper, Opened, Room};
+pub use rule::{Entry, Noted};

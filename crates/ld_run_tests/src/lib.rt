@@ -9,6 +9,8 @@ mod devices;
 #[cfg(test)]
 mod fakes;
 #[cfg(test)]
+mod pieces;
+#[cfg(test)]
 mod report;
 #[cfg(test)]
 mod run;

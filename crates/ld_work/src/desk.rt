@@ -4,7 +4,7 @@ ghost use Rattle.std.specs.Prelude.{IfErr, IfOk, IsErr, IsSome, OnOk};
 ghost use Rattle.std.specs.List.{Contains};
 ghost use Rattle.ld_book.specs.Totals.{event_count};
 ghost use Rattle.ld_work.specs.Desk.{IsAddition, IsEvent, sum_of, tally_of};
-ghost use Rattle.ld_work.specs.Inner.Seen.{AreOne, numbers_of};
+ghost use Rattle.ld_work.specs.Inner.Seen.{entries_of};
 
 use crate::feeder::{Feeder, MOST_FEEDERS, Tally};
 use crate::kept::Kept;
@@ -252,15 +252,13 @@ impl<'d, 'a, T: Ledger, E: Ledger, S: Scope, H: Room> Look<'d, 'a, T, E, S, H> {
         series: &mut Series<'a>,
     ) -> Result<(), AddRefusal>
         requires history { IsSome H.history }
-        requires one { AreOne S.may_list }
         requires list { All S.may_list series.old.sources }
-        requires behind { All S.may_list series.old.behind }
-        requires seen { All (Contains front.old) (numbers_of series.old.behind) }
+        requires seen { All (Contains front.old) (entries_of series.old.behind) }
         ensures added { IsAddition series.old.sources AddRefusal.Twice AddRefusal.Memory result
             self.old self.new feeder.old feeder.new }
         ensures series { series.new ≡ series.old }
         ensures seen { OnOk result (All (Contains front.new)
-            (numbers_of (series.old.behind ++ series.old.sources))) }
+            (entries_of (series.old.behind ++ series.old.sources))) }
         ensures event { IsEvent self.old self.new feeder.old feeder.new }
     {
         self.guard.submit_next(feeder, front, series)

@@ -1,21 +1,23 @@
-//! A book with the history of its traces' numbers.
+//! A book with the history of its traces.
 ghost use Rattle.std.specs.Prelude.{◌≡◌, ◌≤◌, ◌++◌, ◌∷◌, [], Some, length, option_map, All, IfSome, IsSome, OnOk};
 ghost use Rattle.std.specs.List.{Contains};
 ghost use Rattle.ld_book.specs.Totals.{event_count};
 ghost use Rattle.ld_batch.specs.Batch.{sources_of};
 ghost use Rattle.ld_work.specs.Desk.{IsAddition};
-ghost use Rattle.ld_work.specs.Inner.Seen.{AreOne, numbers_of};
+ghost use Rattle.ld_trace.specs.Sources.{plain};
+ghost use Rattle.ld_work.specs.Inner.Seen.{entries_of, entry_of};
 
 use crate::feeder::Feeder;
 use crate::locked::Locked;
 use crate::scope::Scope;
 use ld_book::{AddRefusal, Batch, Refusal, Series};
 use ld_facts::{Facts, Listed};
-use ld_history::{Front, Keeper, Room};
+use ld_history::{Front, Keeper, Noted, Room};
+use ld_trace::Source;
 use std::marker::{Brand, Model};
 use std::sync::ledger::Ledger;
 
-/// What the lock of a desk keeps, with the history of the numbers of its book's traces, if the desk has one.
+/// What the lock of a desk keeps, with the history of its book's traces, if the desk has one.
 #[derive(Drop)]
 pub(crate) struct Kept<'a, T: Ledger, E: Ledger, S: Scope, H: Room> {
     pub(crate) locked: Locked<'a, T, E, S>,
@@ -25,13 +27,13 @@ pub(crate) struct Kept<'a, T: Ledger, E: Ledger, S: Scope, H: Room> {
 impl<'a, T: Ledger, E: Ledger, S: Scope, H: Room> Model for Kept<'a, T, E, S, H> {
     ghost use Rattle.std.specs.Prelude.{◌≡◌, List, option_map};
     ghost use Rattle.ld_trace.specs.Sources.{PlainSource};
-    ghost use Rattle.ld_work.specs.Inner.Seen.{numbers_of};
+    ghost use Rattle.ld_work.specs.Inner.Seen.{entries_of};
 
     ghost Value = { List PlainSource };
 
     ghost view = { λ k. k.locked };
 
-    ghost invariant = { λ k. k.keeper ≡ option_map (λ _. numbers_of k.locked) H.history };
+    ghost invariant = { λ k. k.keeper ≡ option_map (λ _. entries_of k.locked) H.history };
 }
 
 impl<'a, T: Ledger, E: Ledger, S: Scope, H: Room> Kept<'a, T, E, S, H> {
@@ -63,15 +65,13 @@ impl<'a, T: Ledger, E: Ledger, S: Scope, H: Room> Kept<'a, T, E, S, H> {
         series: &mut Series<'a>,
     ) -> Result<(), AddRefusal>
         requires history { IsSome H.history }
-        requires one { AreOne S.may_list }
         requires list { All S.may_list series.old.sources }
-        requires behind { All S.may_list series.old.behind }
-        requires seen { All (Contains front.old) (numbers_of series.old.behind) }
+        requires seen { All (Contains front.old) (entries_of series.old.behind) }
         ensures added { IsAddition series.old.sources AddRefusal.Twice AddRefusal.Memory result
             self.old self.new feeder.old feeder.new }
         ensures series { series.new ≡ series.old }
         ensures seen { OnOk result (All (Contains front.new)
-            (numbers_of (series.old.behind ++ series.old.sources))) }
+            (entries_of (series.old.behind ++ series.old.sources))) }
     {
         compare(&mut self.keeper, front);
         let answer = self.locked.submit_next(feeder, series);
@@ -93,7 +93,7 @@ impl<'a, T: Ledger, E: Ledger, S: Scope, H: Room> Kept<'a, T, E, S, H> {
         self.locked.covers(feeder);
     }
 
-    /// The numbers of the traces that the book lists.
+    /// What the book lists.
     pub(crate) fn front(&mut self) -> Front<H>
         requires { IsSome H.history }
         ensures { self.new ≡ self.old }
@@ -113,29 +113,44 @@ impl<'a, T: Ledger, E: Ledger, H: Room> Kept<'a, T, E, Brand, H> {
             (Refusal.Twice facts.entry) (Refusal.Memory facts.entry) result
             self.old self.new feeder.old feeder.new }
     {
-        let number = facts.source().number;
+        let source = facts.source();
         let answer = self.locked.submit(feeder, facts);
         if answer.is_err() {
             return answer;
         }
-        note_one(&mut self.keeper, number);
+        note_one(&mut self.keeper, source);
         answer
     }
 }
 
-/// Adds a number to the history, if there is one.
-fn note_one<H: Room>(keeper: &mut Option<Keeper<H>>, number: u64)
-    ensures { keeper.new ≡ option_map (λ all. all ++ number ∷ []) keeper.old }
+/// Adds a source to the history, if there is one.
+fn note_one<H: Room>(keeper: &mut Option<Keeper<H>>, source: Source<'_>)
+    ensures { keeper.new ≡ option_map (λ all. all ++ entry_of (plain source.entry) ∷ []) keeper.old }
 {
     match keeper {
-        Some(keeper) => keeper.add(number),
+        Some(keeper) => add(keeper, source),
         None => {}
     }
 }
 
-/// Adds the numbers of these traces to the history, if there is one.
+/// Adds a source to the history.
+fn add<H: Room>(keeper: &mut Keeper<H>, source: Source<'_>)
+    ensures { keeper.new ≡ keeper.old ++ entry_of (plain source.entry) ∷ [] }
+{
+    add_noted::<H, Brand>(keeper, source);
+}
+
+/// The same, if this is the source that is noted next.
+fn add_noted<H: Room, N: Noted>(keeper: &mut Keeper<H>, _source: Source<'_>)
+    requires { N.entry ≡ entry_of (plain _source) }
+    ensures { keeper.new ≡ keeper.old ++ entry_of (plain _source.entry) ∷ [] }
+{
+    keeper.add::<N>();
+}
+
+/// Adds these traces to the history, if there is one.
 fn note<H: Room>(keeper: &mut Option<Keeper<H>>, traces: &[Listed<'_>])
-    ensures { keeper.new ≡ option_map (λ all. all ++ numbers_of (sources_of traces.now)) keeper.old }
+    ensures { keeper.new ≡ option_map (λ all. all ++ entries_of (sources_of traces.now)) keeper.old }
 {
     match keeper {
         Some(keeper) => note_all(keeper, traces),
@@ -143,12 +158,12 @@ fn note<H: Room>(keeper: &mut Option<Keeper<H>>, traces: &[Listed<'_>])
     }
 }
 
-/// Adds the numbers of these traces to the history.
+/// Adds these traces to the history.
 fn note_all<H: Room>(keeper: &mut Keeper<H>, traces: &[Listed<'_>])
-    ensures { keeper.new ≡ keeper.old ++ numbers_of (sources_of traces.now) }
+    ensures { keeper.new ≡ keeper.old ++ entries_of (sources_of traces.now) }
 {
     for trace in traces {
-        keeper.add(trace.source.number);
+        add(keeper, trace.source);
     }
 }
 

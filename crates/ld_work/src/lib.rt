@@ -1,6 +1,8 @@
 //! Several workers at once: a desk with a book behind a lock, and the workers that feed it.
 #![tactic(auto)]
 
+mod coming;
+mod cuts;
 mod desk;
 mod even;
 mod feeder;
@@ -12,6 +14,8 @@ mod sums;
 mod told;
 mod workers;
 
+pub use coming::{compared, work_on};
+pub use cuts::Cuts;
 pub use desk::{Back, Desk, Gathered, Look};
 pub use feeder::{Feeder, MOST_FEEDERS, Tally};
 pub use gate::{Gate, NoGate};

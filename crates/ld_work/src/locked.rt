@@ -3,7 +3,7 @@ ghost use Rattle.std.specs.Prelude.{◌≡◌, ◌≤◌, ◌∷◌, [], length,
 ghost use Rattle.std.specs.List.{Contains};
 ghost use Rattle.ld_book.specs.Totals.{event_count};
 ghost use Rattle.ld_work.specs.Desk.{IsAddition};
-ghost use Rattle.ld_work.specs.Inner.Seen.{AreOne, numbers_of};
+ghost use Rattle.ld_work.specs.Inner.Seen.{entries_of};
 
 use crate::feeder::Feeder;
 use crate::scope::Scope;
@@ -61,16 +61,14 @@ impl<'a, T: Ledger, E: Ledger, S: Scope> Locked<'a, T, E, S> {
         Ok(())
     }
 
-    /// The same of the traces that a series lists. The numbers of those behind them have to be listed.
+    /// The same of the traces that a series lists. Those behind them have to be listed.
     pub(crate) fn submit_next(
         &mut self,
         feeder: &mut Feeder<T, E>,
         series: &mut Series<'a>,
     ) -> Result<(), AddRefusal>
-        requires one { AreOne S.may_list }
         requires list { All S.may_list series.old.sources }
-        requires behind { All S.may_list series.old.behind }
-        requires seen { All (Contains (numbers_of self.old)) (numbers_of series.old.behind) }
+        requires seen { All (Contains (entries_of self.old)) (entries_of series.old.behind) }
         ensures added { IsAddition series.old.sources AddRefusal.Twice AddRefusal.Memory result
             self.old self.new feeder.old feeder.new }
         ensures series { series.new ≡ series.old }

@@ -3,7 +3,6 @@ ghost use Rattle.std.specs.Prelude.{◌≡◌, ◌⊎◌, ◌<◌, ◌++◌, ◌
 ghost use Rattle.std.specs.List.{last_or};
 ghost use Rattle.ld_batch.specs.Batch.{nothing_shown};
 ghost use Rattle.ld_trace.specs.Sources.{Fits, plain};
-ghost use Rattle.ld_work.specs.Inner.Seen.{AreOne};
 
 use crate::desk::Desk;
 use crate::feeder::Feeder;
@@ -55,22 +54,20 @@ impl<'a, S: Scope, H: Room> Model for Told<'a, S, H> {
     ghost use Rattle.std.specs.Prelude.{All, IsSome};
     ghost use Rattle.std.specs.List.{Contains};
     ghost use Rattle.ld_batch.specs.Batch.{PlainShown};
-    ghost use Rattle.ld_work.specs.Inner.Seen.{AreOne, numbers_of};
+    ghost use Rattle.ld_work.specs.Inner.Seen.{entries_of};
 
     ghost Value = { PlainShown };
 
     ghost view = { λ t. t.series };
 
-    ghost invariant = { λ t. IsSome H.history × AreOne S.may_list
-        × All S.may_list t.series.behind × All S.may_list t.series.sources
-        × All (Contains t.front) (numbers_of t.series.behind) };
+    ghost invariant = { λ t. IsSome H.history × All S.may_list t.series.sources
+        × All (Contains t.front) (entries_of t.series.behind) };
 }
 
 impl<'a, S: Scope, H: Room> Told<'a, S, H> {
     /// Nothing was read.
     pub(crate) fn new(alloc: Global, front: Front<H>, portion: Portion) -> Told<'a, S, H>
         requires history { IsSome H.history }
-        requires one { AreOne S.may_list }
         ensures { result ≡ nothing_shown }
     {
         Told {

@@ -3,7 +3,6 @@ ghost use Rattle.std.specs.Prelude.{◌≡◌, ◌≤◌, ◌<◌, ◌++◌, ℕ
 ghost use Rattle.std.specs.List.{Contains, last_or};
 ghost use Rattle.ld_trace.specs.Sources.{AreNumbered, Fits, PlainSource, plain};
 ghost use Rattle.ld_tickets.specs.Draw.{IsSeatOf};
-ghost use Rattle.ld_work.specs.Inner.Seen.{AreOne};
 ghost use Rattle.ld_work.specs.Inner.Uneven.{IsUneven};
 ghost use Rattle.ld_work.specs.Work.{ListsEachOnce};
 
@@ -58,10 +57,10 @@ struct Job<T: Ledger, E: Ledger> {
 
 /// What a worker leaves.
 #[derive(Drop)]
-struct Done<T: Ledger, E: Ledger> {
-    feeder: Feeder<T, E>,
+pub(crate) struct Done<T: Ledger, E: Ledger> {
+    pub(crate) feeder: Feeder<T, E>,
     /// A growth of memory was refused: the worker drew no more, and what its batch had isn't in the book.
-    refused: bool,
+    pub(crate) refused: bool,
 }
 
 /// The book of these sources, read by that many workers at once. Each worker draws the number of its
@@ -188,7 +187,6 @@ fn feed<
     requires numbered { AreNumbered (map plain sources.now) }
     requires fit { All (λ source. Fits (plain source)) sources.now }
     requires scope { All (λ source. S.may_list (plain source)) sources.now }
-    requires one { AreOne S.may_list }
     requires history { IsSome H.history }
     ensures { IfOk result (λ fed. length fed.items ≡ length feeders.items) }
 {
@@ -199,7 +197,7 @@ fn feed<
 }
 
 /// The book of a desk, all of whose feeders were given back, unless memory was refused.
-fn gathered<'a, T: Ledger, E: Ledger, S: Scope, H: Room>(
+pub(crate) fn gathered<'a, T: Ledger, E: Ledger, S: Scope, H: Room>(
     desk: Desk<'a, T, E, S, H>,
     fed: Result<Vec<Feeder<T, E>>, AllocError>,
 ) -> Result<Book<'a>, AllocError>
@@ -266,7 +264,6 @@ fn run<
     requires numbered { AreNumbered (map plain sources.now) }
     requires fit { All (λ source. Fits (plain source)) sources.now }
     requires scope { All (λ source. S.may_list (plain source)) sources.now }
-    requires one { AreOne S.may_list }
     requires history { IsSome H.history }
     ensures { IfOk result (λ done. length done.items ≡ length jobs.items) }
 {
@@ -293,7 +290,6 @@ fn run_one<'a, T: Ledger, E: Ledger, S: Scope, H: Room, G: Gate, R: Wait>(
     requires numbered { AreNumbered (map plain sources.now) }
     requires fit { All (λ source. Fits (plain source)) sources.now }
     requires scope { All (λ source. S.may_list (plain source)) sources.now }
-    requires one { AreOne S.may_list }
     requires history { IsSome H.history }
 {
     let Job {
@@ -320,7 +316,7 @@ fn run_one<'a, T: Ledger, E: Ledger, S: Scope, H: Room, G: Gate, R: Wait>(
 }
 
 /// Reads a trace, and hands on what was read if that is due.
-fn read<'a, T: Ledger, E: Ledger, S: Scope, H: Room, R: Wait>(
+pub(crate) fn read<'a, T: Ledger, E: Ledger, S: Scope, H: Room, R: Wait>(
     rt: &R,
     desk: &Desk<'a, T, E, S, H>,
     source: Source<'a>,
@@ -348,7 +344,7 @@ fn read<'a, T: Ledger, E: Ledger, S: Scope, H: Room, R: Wait>(
 /// # Errors
 ///
 /// `AllocError` where one of them was refused memory, or memory for the feeders was.
-fn feeders_of<T: Ledger, E: Ledger>(
+pub(crate) fn feeders_of<T: Ledger, E: Ledger>(
     alloc: Global,
     done: Vec<Done<T, E>>,
 ) -> Result<Vec<Feeder<T, E>>, AllocError>
@@ -373,7 +369,11 @@ fn feeders_of<T: Ledger, E: Ledger>(
 /// # Errors
 ///
 /// `Memory` where memory was refused, and else `Uneven` with the number that tells it.
-fn settled<'a>(alloc: Global, sources: &[Source<'a>], book: &Book<'a>) -> Result<(), WorkFault>
+pub(crate) fn settled<'a>(
+    alloc: Global,
+    sources: &[Source<'a>],
+    book: &Book<'a>,
+) -> Result<(), WorkFault>
     requires numbered { AreNumbered (map plain sources.now) }
     requires among { All (Contains (map plain sources.now)) book.now }
     ensures even { OnOk result (ListsEachOnce (map plain sources.now) book.now) }

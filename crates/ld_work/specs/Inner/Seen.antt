@@ -1,10 +1,11 @@
 -- What a worker saw of the book of its desk. No contract of a `Desk` or of `work` cites this file.
-use Rattle.std.specs.Prelude.{◌≡◌, ℕ, List, map}
+use Rattle.std.specs.Prelude.{List, map}
 use Rattle.ld_trace.specs.Sources.{PlainSource}
+use Rattle.ld_history.specs.declared.rule.Entry.{Entry}
 
-abbrev pub numbers_of : List PlainSource → List ℕ
-numbers_of sources = map (λ source. source.number) sources
+-- what a history notes of a source
+abbrev pub entry_of : PlainSource → Entry
+entry_of source = record { number = source.number; label = source.label; first_line = source.first_line; bytes = source.bytes }
 
--- two sources of one number that may be listed are one
-abbrev pub AreOne : (PlainSource → Type 0) → Type 0
-AreOne may_list = (a b : PlainSource) → may_list a → may_list b → a.number ≡ b.number → a ≡ b
+abbrev pub entries_of : List PlainSource → List Entry
+entries_of sources = map entry_of sources

@@ -1,7 +1,5 @@
-use Rattle.std.proofs.Common.{◌∙◌, map, sym}
+use Rattle.std.proofs.Common.{◌∙◌, sym}
 use Rattle.std.proofs.lemmas.Result.{IfOk-weaker}
-use Rattle.ld_trace.specs.Sources.{plain}
-use Rattle.ld_work.proofs.SeenLemmas.{sources-one}
 use Rattle.ld_work.proofs.workers.work_at.Goals as goal
 
 -- as many came back as the desk was made with
@@ -12,7 +10,3 @@ gathered-requires g c =
 -- what the desk may list are the sources
 pub settled-requires-clause-among : goal.settled-requires-clause-among
 settled-requires-clause-among g c k d within = c.requires.only _ (c.in_ok-book.ensures k d within)
-
--- and so are two of one number one
-pub feed-fed-requires-clause-one : goal.feed-fed-requires-clause-one
-feed-fed-requires-clause-one g c κs _ = sources-one g.S.Scope.may_list (map plain c.args.sources.now) c.requires.numbered c.requires.only

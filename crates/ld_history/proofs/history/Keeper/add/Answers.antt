@@ -7,5 +7,5 @@ store-requires g c =
     let i = c.self.invariant in (
       i.1,
       omega (arith, i.0),
-      appends _ _ _ _ i.4,
+      appends _ _ _ 0 g.N.Noted.entry i.4,
     )

@@ -1,7 +1,7 @@
 use Rattle.std.proofs.Common.{◌++◌, ◌∙◌, List, ap, sym}
 use Rattle.ld_trace.specs.Sources.{PlainSource}
 use Rattle.ld_batch.specs.Batch.{PlainShown}
-use Rattle.ld_work.specs.Inner.Seen.{numbers_of}
+use Rattle.ld_work.specs.Inner.Seen.{entries_of}
 use Rattle.ld_work.proofs.SeenLemmas.{front-all, front-is, none-ok, noted, on-ok, seen-kept, seen-through, some-kept, some-ok, still-kept}
 use Rattle.ld_work.proofs.kept.Kept.submit_next.Goals as goal
 
@@ -10,7 +10,7 @@ compare-requires g c = some-kept g.H.Room.history c.self.inside.keeper c.self.in
 
 pub submit_next-answer-requires-clause-seen : goal.submit_next-answer-requires-clause-seen
 submit_next-answer-requires-clause-seen g c =
-    seen-through (numbers_of c.self.inside.locked) c.args.front.now (numbers_of c.args.series.now.behind)
+    seen-through (entries_of c.self.inside.locked) c.args.front.now (entries_of c.args.series.now.behind)
     (seen-kept g.H.Room.history c.self.inside.keeper c.self.inside.locked c.args.front.now c.requires.history c.self.invariant c.compare.ensures.seen)
     c.requires.seen
 
@@ -31,10 +31,10 @@ returns-clause-seen g c =
     (added.listed ∙ ap (λ (these : List PlainSource). c.self.inside.locked ++ these) (sym (c.listed.ensures.sources ∙ ap (λ (s : PlainShown). s.sources) c.submit_next-answer.ensures.series))) in
     some-ok c.submit_next-answer.result
     (front-all c.self.inside.locked c.args.series.now.sources c.args.series.now.behind c.show.result
-    (seen-through (numbers_of c.self.inside.locked) c.args.front.now (numbers_of c.args.series.now.behind)
+    (seen-through (entries_of c.self.inside.locked) c.args.front.now (entries_of c.args.series.now.behind)
     (seen-kept g.H.Room.history c.self.inside.keeper c.self.inside.locked c.args.front.now c.requires.history c.self.invariant c.compare.ensures.seen)
     c.requires.seen)
-    (front-is g.H.Room.history c.note.new.keeper c.show.result c.submit_next-answer.new.self c.requires.history kept c.show.ensures.front ∙ ap numbers_of added.listed))
+    (front-is g.H.Room.history c.note.new.keeper c.show.result c.submit_next-answer.new.self c.requires.history kept c.show.ensures.front ∙ ap entries_of added.listed))
 
 pub invariant_of-self : goal.invariant_of-self
 invariant_of-self g c =

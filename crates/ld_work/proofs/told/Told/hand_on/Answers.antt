@@ -2,7 +2,7 @@ use Rattle.std.proofs.Common.{◌≡◌, ◌⊎◌, inl, ◌++◌, ◌∙◌, []
 use Rattle.std.proofs.lemmas.List.Elements.{All-nil}
 use Rattle.std.specs.List.{Contains}
 use Rattle.ld_batch.specs.Batch.{PlainShown, nothing_shown}
-use Rattle.ld_work.specs.Inner.Seen.{numbers_of}
+use Rattle.ld_work.specs.Inner.Seen.{entries_of}
 use Rattle.ld_work.proofs.SeenLemmas.{told-on}
 use Rattle.ld_work.proofs.told.Told.hand_on.Goals as goal
 
@@ -11,11 +11,9 @@ invariant_of-self g c =
     let i = c.self.invariant in
     let before = sym c.submit_next-answer.ensures.series in
     let on = told-on g.S.Scope.may_list c.submit_next-answer.new.front c.submit_next-answer.new.series c.pass_on.new.self
-    (subst (λ (s : PlainShown). All g.S.Scope.may_list s.behind) before i.2)
-    (subst (λ (s : PlainShown). All g.S.Scope.may_list s.sources) before i.3)
-    (subst (λ (s : PlainShown). All (Contains c.submit_next-answer.new.front) (numbers_of (s.behind ++ s.sources))) before c.in-Ok.ensures.seen)
+    (subst (λ (s : PlainShown). All (Contains c.submit_next-answer.new.front) (entries_of (s.behind ++ s.sources))) before c.in-Ok.ensures.seen)
     c.pass_on.ensures in
-    (i.0, i.1, on.0, on.1, on.2)
+    (i.0, on.0, on.1)
 
 pub returns-in-Ok : goal.returns-in-Ok
 returns-in-Ok g c =
@@ -25,9 +23,8 @@ returns-in-Ok g c =
 pub invariant_of-self-in-Err : goal.invariant_of-self-in-Err
 invariant_of-self-in-Err g c =
     let i = c.self.invariant in
-    let on = told-on g.S.Scope.may_list c.submit_next-answer.new.front nothing_shown c.clear.new.self (All-nil g.S.Scope.may_list) (All-nil g.S.Scope.may_list) (All-nil (Contains c.submit_next-answer.new.front))
-    (inl c.clear.ensures) in
-    (i.0, i.1, on.0, on.1, on.2)
+    let on = told-on g.S.Scope.may_list c.submit_next-answer.new.front nothing_shown c.clear.new.self (All-nil (Contains c.submit_next-answer.new.front)) (inl c.clear.ensures) in
+    (i.0, on.0, on.1)
 
 pub returns-in-Err : goal.returns-in-Err
 returns-in-Err g c = inl c.clear.ensures

@@ -1,0 +1,103 @@
+//! The traces of a piece, as traces of the stream that it is a piece of.
+ghost use Rattle.std.specs.Prelude.{◌≡◌, ◌<◌, ◌≤◌, ◌+◌, ◌^◌, All, IfOk, IfSome, IsTrue, count_by, false, length, map};
+ghost use Rattle.ld_trace.specs.Inner.Splitting.{is_lf};
+ghost use Rattle.ld_trace.specs.Sources.{Fits, plain, sources};
+ghost use Rattle.ld_pieces.specs.Pieces.{BeginsWithHeader, EndsLine, IsCutBehind, moved};
+
+use ld_trace::{LONGEST_STREAM, MOST_TRACES, Source, StreamFault, split};
+use std::alloc::{AllocError, Global};
+
+/// The traces of a piece that so many traces and lines come before. `None` if the piece has a fault or too many traces,
+/// or if it isn't the first and doesn't begin with a header.
+///
+/// # Errors
+///
+/// `AllocError` if memory was refused.
+pub(crate) fn cut_behind<'a>(
+    alloc: Global,
+    piece: &'a [u8],
+    traces: u64,
+    lines: u64,
+    is_first: bool,
+) -> Result<Option<Vec<Source<'a>>>, AllocError>
+    requires traces { traces ≤ MOST_TRACES }
+    requires lines { lines ≤ LONGEST_STREAM + 1 }
+    ensures cut { IfOk result (λ answer. IfSome answer (λ more.
+        IsCutBehind piece.entry.now traces lines (map plain more.items))) }
+    ensures header { is_first ≡ false → IfOk result (λ answer. IfSome answer (λ _.
+        BeginsWithHeader piece.entry.now)) }
+{
+    let sources = match split(alloc, piece) {
+        Ok(sources) => sources,
+        Err(StreamFault::Memory) => return Err(AllocError),
+        Err(_) => return Ok(None),
+    };
+    if !is_first && !begins_with_header(piece, &sources) {
+        return Ok(None);
+    }
+    if sources.len() as u64 > MOST_TRACES - traces {
+        return Ok(None);
+    }
+    let more = moved_on(alloc, &sources, traces, lines)?;
+    Ok(Some(more))
+}
+
+/// Whether the piece begins with a header, by its sources.
+fn begins_with_header(_piece: &[u8], found: &[Source<'_>]) -> bool
+    requires { map plain found.now ≡ sources _piece.now }
+    ensures { IsTrue result → BeginsWithHeader _piece.now }
+{
+    match found.first() {
+        Some(source) => source.first_line == 2,
+        None => false,
+    }
+}
+
+/// The same sources with so many traces and lines before them.
+fn moved_on<'a>(
+    alloc: Global,
+    sources: &[Source<'a>],
+    traces: u64,
+    lines: u64,
+) -> Result<Vec<Source<'a>>, AllocError>
+    requires traces { traces ≤ MOST_TRACES }
+    requires lines { lines ≤ LONGEST_STREAM + 1 }
+    requires fit { All (λ source. Fits (plain source)) sources.now }
+    ensures { IfOk result (λ more.
+        map plain more.items ≡ map (moved traces lines) (map plain sources.now)) }
+{
+    let mut more = Vec::with_capacity(alloc, sources.len())?;
+    for source in sources {
+        more.push(Source {
+            number: source.number + traces,
+            name: source.name,
+            first_line: source.first_line + lines,
+            bytes: source.bytes,
+        })?;
+    }
+    Ok(more)
+}
+
+/// How many LFs there are.
+pub(crate) fn count_lines(bytes: &[u8]) -> u64
+    ensures count { result ≡ count_by is_lf bytes.now }
+    ensures few { result ≤ length bytes.now }
+{
+    let mut count = 0;
+    for byte in bytes {
+        if *byte == b'\n' {
+            count += 1;
+        }
+    }
+    count
+}
+
+/// Whether the last byte is an LF.
+pub(crate) fn ends_line(bytes: &[u8]) -> bool
+    ensures { IsTrue result → EndsLine bytes.now }
+{
+    match bytes.last() {
+        Some(last) => *last == b'\n',
+        None => false,
+    }
+}
