@@ -5,6 +5,7 @@ ghost use Rattle.ld_trace.specs.Sources.{Fits, plain, sources};
 ghost use Rattle.ld_pieces.specs.Pieces.{BeginsWithHeader, EndsLine, IsCutBehind, moved};
 
 use ld_trace::{LONGEST_STREAM, MOST_TRACES, Source, StreamFault, split};
+use memchr::memchr;
 use std::alloc::{AllocError, Global};
 
 /// The traces of a piece that so many traces and lines come before. `None` if the piece has a fault or too many traces,
@@ -84,10 +85,11 @@ pub(crate) fn count_lines(bytes: &[u8]) -> u64
     ensures few { result ≤ length bytes.now }
 {
     let mut count = 0;
-    for byte in bytes {
-        if *byte == b'\n' {
-            count += 1;
-        }
+    let mut rest = bytes;
+    while let Some(at) = memchr(b'\n', rest) {
+        count += 1;
+        let (_, behind) = rest.split_at(at + 1);
+        rest = behind;
     }
     count
 }
