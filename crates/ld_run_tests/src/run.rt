@@ -7,7 +7,7 @@ use crate::texts::{
     FORBIDDEN_THROUGH, FORBIDDEN_THROUGH_REPORT, INVERSION, INVERSION_REPORT, TWENTY_EQUAL,
     TWENTY_EQUAL_REPORT,
 };
-use ld_check::{MOST_WORKERS, RunFault, run};
+use ld_check::{MOST_WORKERS, NoGate, RunFault, report_of, run};
 use ld_io::{Input, Output, Std};
 use ld_report::Verdict;
 use std::alloc::Global;
@@ -131,6 +131,9 @@ fn two_thousand_traces_are_reported(rt: HostRuntime) -> Result<(), Fail> {
     let verdict = run(&rt, rt.alloc(), &mut input, &mut Std::new(&mut text), 4);
     assert_eq!(rt; verdict, Ok(Verdict::Refused));
     assert_eq!(rt; text.as_slice(), wanted.as_bytes());
+    let whole = report_of(&rt, rt.alloc(), stream.as_bytes(), 4, &NoGate);
+    let report = whole.expect(&rt, "a report of the whole stream");
+    assert_eq!(rt; report.text.as_slice(), wanted.as_bytes());
     Ok(())
 }
 
