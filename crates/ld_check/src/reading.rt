@@ -2,16 +2,11 @@
 ghost use Rattle.std.specs.Prelude.{◌≡◌, ◌≤◌, ◌+◌, ◌++◌, ◌↔◌, Err, IfOk, OnOk, false, length, true, vec_len};
 ghost use Rattle.ld_io.specs.Transfer.{ConsumesAtMost, ReadsWhole};
 
-use ld_io::{Input, MOST_READ, ReadFault};
-use ld_pieces::{CHUNK, Pieces, read_piece};
-use ld_trace::Source;
+use ld_io::{Input, MOST_READ, ReadFault, chunk};
+use ld_pieces::{Pieces, read_piece};
 use ld_work::Cuts;
 use std::alloc::{AllocError, Global};
-use std::mem;
 use std::sync::{OnceLock, Wait};
-
-/// How many bytes the traces have that a worker gets together.
-const CUT: usize = 65_536;
 
 /// Reads the input to its end, piece by piece, and lets workers have the traces of each piece. Each piece stays in a
 /// cell of its own. Then no more traces come, whatever happened. May wait.
@@ -55,7 +50,7 @@ fn read_pieces<'a, I: Input, R: Wait>(
     ensures failed { (result ≡ Err ReadFault.Read) ↔ (I.read_failed input.new ≡ true) }
     ensures most { ConsumesAtMost (I.left input.old) (I.left input.new) MOST_READ }
 {
-    let mut chunk = zeros(alloc)?;
+    let mut chunk = chunk(alloc)?;
     let mut pieces = Pieces::new(alloc);
     let mut ahead = Vec::new(alloc);
     for cell in texts {
@@ -69,12 +64,6 @@ fn read_pieces<'a, I: Input, R: Wait>(
         }
     }
     Err(ReadFault::Memory)
-}
-
-fn zeros(alloc: Global) -> Result<Vec<u8>, AllocError>
-    ensures { IfOk result (λ bytes. vec_len bytes ≡ CHUNK) }
-{
-    vec![in alloc; 0; CHUNK]
 }
 
 /// A piece in its cell, which no other thread sets.
@@ -101,7 +90,7 @@ fn add<'a, R: Wait>(
     let before = count(pieces);
     pieces.add(alloc, text)?;
     match pieces.traces() {
-        Some(traces) if before <= traces.len() => put(rt, alloc, &traces[before..], cuts),
+        Some(traces) if before <= traces.len() => cuts.put(rt, alloc, &traces[before..]),
         _ => Ok(()),
     }
 }
@@ -112,28 +101,4 @@ fn count(pieces: &Pieces<'_>) -> usize {
         Some(traces) => traces.len(),
         None => 0,
     }
-}
-
-/// Lets workers have these traces, some at a time.
-fn put<'a, R: Wait>(
-    rt: &R,
-    alloc: Global,
-    traces: &[Source<'a>],
-    cuts: &Cuts<'a>,
-) -> Result<(), AllocError> {
-    let mut cut = Vec::new(alloc);
-    let mut bytes = 0usize;
-    for source in traces {
-        cut.push(*source)?;
-        bytes = bytes.saturating_add(source.name.len());
-        bytes = bytes.saturating_add(source.bytes.len());
-        if bytes >= CUT {
-            cuts.put(rt, mem::replace(&mut cut, Vec::new(alloc)))?;
-            bytes = 0;
-        }
-    }
-    if cut.is_empty() {
-        return Ok(());
-    }
-    cuts.put(rt, cut)
 }

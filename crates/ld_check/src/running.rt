@@ -53,7 +53,7 @@ pub(crate) fn report_while<I: Input, R: Threads + Wait + Sync>(
     ensures most { ConsumesAtMost (I.left input.old) (I.left input.new) MOST_READ }
 {
     let texts = cells(alloc)?;
-    let report = report_in(rt, alloc, input, &texts, workers);
+    let report = report_with_cells(rt, alloc, input, &texts, workers);
     drop(texts);
     report
 }
@@ -68,7 +68,7 @@ fn cells(alloc: Global) -> Result<Vec<OnceLock<Vec<u8>>>, AllocError> {
 }
 
 /// As `report_while`, with cells for the pieces.
-fn report_in<'a, I: Input, R: Threads + Wait + Sync>(
+fn report_with_cells<'a, I: Input, R: Threads + Wait + Sync>(
     rt: &R,
     alloc: Global,
     input: &mut I,
@@ -163,6 +163,7 @@ fn report_by(
     report
 }
 
+/// The report of the book, once it lists these traces and no other.
 fn report_compared(
     alloc: Global,
     traces: &[Source<'_>],

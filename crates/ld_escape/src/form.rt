@@ -104,14 +104,14 @@ fn is_markup(byte: u8) -> bool
 }
 
 /// A byte of ASCII that shows nothing.
-fn is_control(byte: u8) -> bool
+pub(crate) fn is_control(byte: u8) -> bool
     ensures { result ≡ is_control byte }
 {
     byte < 32 || byte == 127
 }
 
 /// A byte that isn't one of ASCII, of a name that isn't shown.
-fn is_foreign(shown: bool, byte: u8) -> bool
+pub(crate) fn is_foreign(shown: bool, byte: u8) -> bool
     ensures { result ≡ is_foreign shown byte }
 {
     !shown && byte >= 128

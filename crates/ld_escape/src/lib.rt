@@ -1,11 +1,13 @@
 //! Names in texts of other languages: whatever a name's bytes are, none of them ends a string, begins an element or
-//! a command, or ends a line there, and no two names are written alike.
+//! a command, or ends a line there, and no two names are written alike. Texts for people, which control no terminal.
 #![tactic(auto)]
 
 mod escaping;
 mod form;
 mod shown;
+mod visible;
 
 pub use escaping::write_escaped;
 pub use form::Form;
 pub use shown::is_shown;
+pub use visible::{write_on_line, write_visible};

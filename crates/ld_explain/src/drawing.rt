@@ -3,8 +3,9 @@
 use crate::around::near;
 use crate::known::{known_at, write_known};
 use crate::violations::{Choice, Dependency, Violation, chosen, is_named};
-use crate::writing::{write_file, write_sub};
+use crate::writing::write_sub;
 use indexmap::{IndexMap, IndexSet};
+use ld_escape::write_on_line;
 use ld_overview::{
     Book, ClassName, ClassRow, DependencyRow, Overview, Witness, has_readers, lock_of_readers,
     sort_by_locks,
@@ -324,7 +325,7 @@ impl<'t, 'a> Drawing<'t, 'a> {
         match self.places.place(line) {
             Some(place) => {
                 let mut file = Vec::new(self.alloc);
-                write_file(&mut file, place.file)?;
+                write_on_line(&mut file, place.file.as_bytes())?;
                 write_shown(&mut self.text, &file)?;
                 let own = place.line;
                 write!(self.text, ":{own}").map_err(|_| AllocError)

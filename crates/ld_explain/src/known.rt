@@ -1,6 +1,6 @@
 //! Writes what recorders say of lines and classes. Each call answers `AllocError` where memory for it was refused.
 
-use crate::writing::write_visible;
+use ld_escape::write_visible;
 use ld_places::ShownPlaces;
 use ld_source_map::{At, Maps, Origin, write_plain};
 use std::alloc::{AllocError, Global};

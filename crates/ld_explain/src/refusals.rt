@@ -2,7 +2,7 @@
 
 use crate::fault::Fault;
 use crate::telling::Telling;
-use crate::writing::write_visible;
+use ld_escape::write_visible;
 use ld_overview::Witness;
 use ld_replay::Before;
 use ld_rules::TraceFault;

@@ -3,7 +3,8 @@
 use crate::known::{known_at, write_known_line};
 use crate::readers::{Held, holds_in, innermost};
 use crate::sightings::{Sightings, Texts};
-use crate::writing::{state_name, write_lock, write_place, write_visible};
+use crate::writing::{state_name, write_lock, write_place};
+use ld_escape::write_visible;
 use ld_overview::{Book, Witness};
 use ld_places::ShownPlaces;
 use ld_replay::{Before, Flag, task_of};

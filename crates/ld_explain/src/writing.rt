@@ -1,7 +1,7 @@
 //! Writes names and places. Each call answers `AllocError` where memory for its text was refused.
 
 use crate::readers::Held;
-use ld_escape::is_shown;
+use ld_escape::write_on_line;
 use ld_overview::ClassName;
 use ld_places::ShownPlaces;
 use ld_trace::State;
@@ -37,40 +37,6 @@ pub fn state_name(state: State) -> &'static str {
     }
 }
 
-/// Bytes that a stream or a map has, as they can't control a terminal or end a line: each that does, and each from 128
-/// on if they aren't all shown as they are, is `\x` and two digits. A tab is a blank between words, and stays.
-pub fn write_visible(out: &mut Vec<u8>, bytes: &[u8]) -> Result<(), AllocError> {
-    let are_shown = is_shown(bytes);
-    for byte in bytes {
-        if *byte == b'\t' || is_visible(*byte, are_shown) {
-            out.push(*byte)?;
-        } else {
-            write!(out, "\\x{byte:02x}").map_err(|_| AllocError)?;
-        }
-    }
-    Ok(())
-}
-
-/// The name of a file on one line: each byte that could control a terminal or end the line is `?`.
-pub fn write_file(out: &mut Vec<u8>, name: &str) -> Result<(), AllocError> {
-    let name = name.as_bytes();
-    let is_name_shown = is_shown(name);
-    for byte in name {
-        let is_as_it_is = is_visible(*byte, is_name_shown);
-        out.push(if is_as_it_is { *byte } else { b'?' })?;
-    }
-    Ok(())
-}
-
-/// Whether a byte of a text is shown as it is. Those from 128 on are so if the whole text is.
-fn is_visible(byte: u8, is_text_shown: bool) -> bool {
-    if byte < 128 {
-        byte >= 32 && byte != 127
-    } else {
-        is_text_shown
-    }
-}
-
 /// Where a line is shown: `FILE:LINE`.
 pub fn write_place(
     out: &mut Vec<u8>,
@@ -79,7 +45,7 @@ pub fn write_place(
 ) -> Result<(), AllocError> {
     match places.place(line) {
         Some(place) => {
-            write_file(out, place.file)?;
+            write_on_line(out, place.file.as_bytes())?;
             let own = place.line;
             write!(out, ":{own}").map_err(|_| AllocError)
         }

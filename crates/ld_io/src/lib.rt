@@ -5,4 +5,4 @@ mod devices;
 mod transfer;
 
 pub use devices::{DeviceFault, Input, Output, Std};
-pub use transfer::{MOST_READ, ReadFault, read_all, send};
+pub use transfer::{CHUNK, MOST_READ, ReadFault, chunk, read_all, read_up_to, send};

@@ -1,5 +1,5 @@
 //! Whole transfers over the devices: the reading of an input to its end, and the writing of a text.
-ghost use Rattle.std.specs.Prelude.{◌≡◌, ◌<◌, ◌≤◌, ◌+◌, ◌↔◌, ◌||◌, false, true, length, vec_len, IfOk, IsErr, OnErr, OnOk};
+ghost use Rattle.std.specs.Prelude.{◌≡◌, ◌<◌, ◌≤◌, ◌-◌, ◌+◌, ◌↔◌, ◌||◌, false, true, length, vec_len, IfOk, IsErr, OnErr, OnOk};
 ghost use Rattle.std.specs.Io.KnownBytes.{Appends, Consumes, IsAtEnd};
 ghost use Rattle.ld_io.specs.declared.transfer.ReadFault.TheVariants.{Memory, Read};
 ghost use Rattle.ld_io.specs.Devices.{finds_end};
@@ -16,7 +16,9 @@ pub const MOST_READ: usize = LONGEST_STREAM + 1;
 const _: () = prove!(MOST_READ == (1 << 31) + 1);
 
 /// How many bytes one read asks for.
-const CHUNK: usize = 65_536;
+pub const CHUNK: usize = 65_536;
+
+const _: () = prove!(CHUNK == 1 << 16);
 
 /// Why an input could not be read whole.
 #[derive(Clone, Copy, Debug, PartialEq, Eq)]
@@ -43,11 +45,15 @@ impl From<DeviceFault> for ReadFault {
     }
 }
 
-/// So many zeros.
-fn zeros(alloc: Global, len: usize) -> Result<Vec<u8>, AllocError>
-    ensures { IfOk result (λ bytes. vec_len bytes ≡ len) }
+/// The bytes that reads go through, `CHUNK` of them.
+///
+/// # Errors
+///
+/// `AllocError` if there was no memory for them.
+pub fn chunk(alloc: Global) -> Result<Vec<u8>, AllocError>
+    ensures { IfOk result (λ bytes. vec_len bytes ≡ CHUNK) }
 {
-    vec![in alloc; 0; len]
+    vec![in alloc; 0; CHUNK]
 }
 
 /// Reads once into the chunk and appends what was read. Answers how many bytes these are.
@@ -73,6 +79,40 @@ fn read_more<I: Input>(
     Ok(count)
 }
 
+/// Reads until there are `len` bytes, behind those that are there. Answers whether the input ended before. A read that
+/// fails is not tried again. May wait.
+///
+/// # Errors
+///
+/// `Read` exactly if a read failed, and `Memory` if a growth of memory was refused. What was read until then stays.
+pub fn read_up_to<I: Input>(
+    input: &mut I,
+    chunk: &mut [u8],
+    all: &mut Vec<u8>,
+    len: usize,
+) -> Result<bool, ReadFault>
+    requires sound { I.read_failed input.old ≡ false }
+    requires open { I.has_ended input.old ≡ false }
+    requires chunk { length chunk.old ≡ CHUNK }
+    requires room { vec_len all.old ≤ len }
+
+    ensures bytes { OnOk result (Gains all.old.items all.new.items
+        (Consumes (I.left input.old) (I.left input.new))) }
+    ensures len { IfOk result (λ ended. (vec_len all.new ≤ len) × (ended ≡ false → vec_len all.new ≡ len)) }
+    ensures ended { IfOk result (λ ended. (I.has_ended input.new ≡ ended)
+        × (ended ≡ true → IsAtEnd (I.left input.new))) }
+    ensures most { ConsumesAtMost (I.left input.old) (I.left input.new) (len - vec_len all.old) }
+    ensures failed { (result ≡ Err ReadFault.Read) ↔ (I.read_failed input.new ≡ true) }
+{
+    'chunks: while all.len() < len {
+        let room = CHUNK.min(len - all.len());
+        if read_more(input, &mut chunk[..room], all)? == 0 {
+            return Ok(true);
+        }
+    }
+    Ok(false)
+}
+
 /// Reads the input to its end, or its first `MOST_READ` bytes where it has more than the longest
 /// stream. A read that fails is not tried again. May wait.
 ///
@@ -90,13 +130,8 @@ pub fn read_all<I: Input>(alloc: Global, input: &mut I) -> Result<Vec<u8>, ReadF
     ensures most { ConsumesAtMost (I.left input.old) (I.left input.new) MOST_READ }
 {
     let mut all = Vec::new(alloc);
-    let mut chunk = zeros(alloc, CHUNK)?;
-    'chunks: while all.len() < MOST_READ {
-        let room = CHUNK.min(MOST_READ - all.len());
-        if read_more(input, &mut chunk[..room], &mut all)? == 0 {
-            break;
-        }
-    }
+    let mut chunk = chunk(alloc)?;
+    read_up_to(input, &mut chunk, &mut all, MOST_READ)?;
     Ok(all)
 }
 

@@ -3,12 +3,11 @@ use Rattle.std.proofs.Common.{◌≡◌, ◌+◌, ◌-◌, ◌<◌, ◌≤◌, �
 use Rattle.std.proofs.lemmas.Bool.{true≢false}
 use Rattle.std.proofs.lemmas.List.{length-map, map-append, take_all, take_more}
 use Rattle.std.proofs.lemmas.Option.{same_Some}
-use Rattle.std.proofs.KnownBytes.{Consumes-nil, Consumes-trans}
+use Rattle.std.proofs.KnownBytes.{Consumes-nil}
 use Rattle.std.specs.Io.KnownBytes.{Consumes}
 use Rattle.std.specs.Prelude.{◌==◌}
 use Rattle.std.specs.List.{concat}
 use Rattle.ld_io.specs.Inner.Reading.{Gains}
-use Rattle.ld_io.specs.Transfer.{ConsumesAtMost}
 use Rattle.ld_trace.specs.declared.source.Source.{Source}
 use Rattle.ld_trace.specs.declared.source.StreamFault.{StreamFault}
 use Rattle.ld_trace.specs.declared.source.StreamFault.TheVariants.{TooLong}
@@ -96,26 +95,6 @@ concat-more f xs i d now within is =
 -- what two reads gained
 pub gains-none : (all : List ℕ) (left : Option (List ℕ)) → Gains all all (Consumes left left)
 gains-none all left = ([], sym (append-nil all), Consumes-nil left)
-
-pub gains-more : (a b c : List ℕ) (one two three : Option (List ℕ)) → Gains a b (Consumes one two) → Gains b c (Consumes two three) → Gains a c (Consumes one three)
-gains-more a b c one two three first second = (
-  first.0 ++ second.0,
-  second.1 ∙ ap (λ all. all ++ second.0) first.1 ∙ append_assoc a first.0 second.0,
-  Consumes-trans one two three first.0 second.0 first.2 second.2,
-)
-
--- and how many bytes they are at most
-pub gains-most : (a b : List ℕ) (one two three : Option (List ℕ)) (room most : ℕ) → Gains a b (Consumes one two) → ConsumesAtMost two three room → length b + room ≤ most
-    → ConsumesAtMost one three (most - length a)
-gains-most a b one two three room most first more within =
-    let long = ap length first.1 in (
-      first.0 ++ more.0,
-      Consumes-trans one two three first.0 more.0 first.2 more.1,
-      omega (arith, long, length-append a first.0, length-append first.0 more.0, more.2, within),
-    )
-
-pub at-most-more : (one two : Option (List ℕ)) (few most : ℕ) → ConsumesAtMost one two few → few ≤ most → ConsumesAtMost one two most
-at-most-more one two few most read within = (read.0, read.1, omega (arith, read.2, within))
 
 pub gains-whole : (a b piece ahead : List ℕ) (one two : Option (List ℕ)) → Gains a b (Consumes one two) → piece ≡ b → ahead ≡ [] → Gains a (piece ++ ahead) (Consumes one two)
 gains-whole a b piece ahead one two gained is none = (gained.0, (λ i. is i ++ none i) ∙ append-nil b ∙ gained.1, gained.2)

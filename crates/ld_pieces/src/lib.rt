@@ -6,4 +6,4 @@ mod pieces;
 mod reading;
 
 pub use pieces::Pieces;
-pub use reading::{CHUNK, Read, read_piece};
+pub use reading::{Read, read_piece};

@@ -5,12 +5,9 @@ ghost use Rattle.ld_io.specs.Devices.{finds_end};
 ghost use Rattle.ld_io.specs.Inner.Reading.{Gains};
 ghost use Rattle.ld_io.specs.Transfer.{ConsumesAtMost};
 
-use ld_io::{Input, MOST_READ, ReadFault};
+use ld_io::{CHUNK, Input, MOST_READ, ReadFault, read_up_to};
 use memchr::memrchr;
 use std::alloc::{AllocError, Global};
-
-/// How many bytes one read asks for.
-pub const CHUNK: usize = 65_536;
 
 /// How many bytes a piece has at least, as far as whole traces are as many.
 const PIECE: usize = 262_144;
@@ -27,58 +24,6 @@ pub struct Read {
     pub ahead: Vec<u8>,
     /// Nothing more is to be read.
     pub is_last: bool,
-}
-
-/// Reads once into the chunk and appends what was read. Answers how many bytes these are.
-fn read_more<I: Input>(
-    input: &mut I,
-    chunk: &mut [u8],
-    all: &mut Vec<u8>,
-) -> Result<usize, ReadFault>
-    requires { I.read_failed input.old ≡ false }
-
-    ensures grows { IfOk result (λ n. (n ≤ length chunk.old)
-        × (vec_len all.new ≡ vec_len all.old + n)) }
-    ensures ended { OnOk result (I.has_ended input.new ≡
-        (I.has_ended input.old || finds_end result chunk.old)) }
-    ensures at_end { IfOk result (λ n. n ≡ 0 → 0 < length chunk.old → IsAtEnd (I.left input.new)) }
-    ensures bytes { OnOk result (Gains all.old.items all.new.items
-        (Consumes (I.left input.old) (I.left input.new))) }
-    ensures most { ConsumesAtMost (I.left input.old) (I.left input.new) (length chunk.old) }
-    ensures failed { (result ≡ Err ReadFault.Read) ↔ (I.read_failed input.new ≡ true) }
-{
-    let count = input.read(chunk)?;
-    all.extend_from_slice(&chunk[..count])?;
-    Ok(count)
-}
-
-/// Reads until there are that many bytes. Answers whether the input ended before.
-fn read_up_to<I: Input>(
-    input: &mut I,
-    chunk: &mut [u8],
-    all: &mut Vec<u8>,
-    len: usize,
-) -> Result<bool, ReadFault>
-    requires sound { I.read_failed input.old ≡ false }
-    requires open { I.has_ended input.old ≡ false }
-    requires chunk { length chunk.old ≡ CHUNK }
-    requires room { vec_len all.old ≤ len }
-
-    ensures bytes { OnOk result (Gains all.old.items all.new.items
-        (Consumes (I.left input.old) (I.left input.new))) }
-    ensures len { IfOk result (λ ended. (vec_len all.new ≤ len) × (ended ≡ false → vec_len all.new ≡ len)) }
-    ensures ended { IfOk result (λ ended. (I.has_ended input.new ≡ ended)
-        × (ended ≡ true → IsAtEnd (I.left input.new))) }
-    ensures most { ConsumesAtMost (I.left input.old) (I.left input.new) (len - vec_len all.old) }
-    ensures failed { (result ≡ Err ReadFault.Read) ↔ (I.read_failed input.new ≡ true) }
-{
-    'chunks: while all.len() < len {
-        let room = CHUNK.min(len - all.len());
-        if read_more(input, &mut chunk[..room], all)? == 0 {
-            return Ok(true);
-        }
-    }
-    Ok(false)
 }
 
 /// Where the last line that begins with `trace ` begins, among those behind an LF from this place on.

@@ -5,3 +5,4 @@ pub mod Reduced
 pub mod Left
 pub mod Reduction
 pub use Rattle.ld_book.specs as OfBook
+pub use Rattle.ld_rules.specs.Outcome as Outcome

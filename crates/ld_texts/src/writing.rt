@@ -2,6 +2,7 @@
 ghost use Rattle.std.specs.Prelude.{◌≡◌, ◌++◌, OnOk};
 ghost use Rattle.ld_texts.specs.List.{marks_text};
 
+use ld_escape::write_on_line;
 use ld_overview::{Book, ClassName, Traces, UsageRow, Witness};
 use ld_places::ShownPlaces;
 use std::alloc::{AllocError, Global};
@@ -73,15 +74,6 @@ pub(crate) fn write_at(
     text.extend_from_slice(seen.label(at.number))?;
     text.push(b' ')?;
     let (file, line) = seen.place(at.line);
-    write_file(text, file)?;
+    write_on_line(text, file.as_bytes())?;
     write!(text, ":{line}").map_err(|_| AllocError)
-}
-
-/// Writes the name of a file on one line: a control byte, which would end the line or move what is shown, is `?`.
-fn write_file(text: &mut Vec<u8>, name: &str) -> Result<(), AllocError> {
-    for byte in name.as_bytes() {
-        let is_control = *byte < 32 || *byte == 127;
-        text.push(if is_control { b'?' } else { *byte })?;
-    }
-    Ok(())
 }

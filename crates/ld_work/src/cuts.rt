@@ -1,7 +1,9 @@
 //! Traces that come while workers read those before.
+use crate::told::{BYTES, length_of};
 use ld_trace::Source;
 use std::alloc::{AllocError, Global};
 use std::collections::VecDeque;
+use std::mem;
 use std::sync::{Condvar, Mutex, Wait};
 
 /// What waits for a worker.
@@ -33,12 +35,34 @@ impl<'a> Cuts<'a> {
         }
     }
 
-    /// Lets a worker take these traces. Waits only for the lock.
+    /// Lets workers take these traces, as many together as have 65,536 bytes. Waits only for the lock.
     ///
     /// # Errors
     ///
-    /// `AllocError` if memory was refused. No worker gets them then.
-    pub fn put<R: Wait>(&self, rt: &R, cut: Vec<Source<'a>>) -> Result<(), AllocError> {
+    /// `AllocError` if memory was refused. No worker gets the last of them then.
+    pub fn put<R: Wait>(
+        &self,
+        rt: &R,
+        alloc: Global,
+        traces: &[Source<'a>],
+    ) -> Result<(), AllocError> {
+        let mut cut = Vec::new(alloc);
+        let mut bytes = 0usize;
+        for source in traces {
+            cut.push(*source)?;
+            bytes = bytes.saturating_add(length_of(source));
+            if bytes >= BYTES {
+                self.put_one(rt, mem::replace(&mut cut, Vec::new(alloc)))?;
+                bytes = 0;
+            }
+        }
+        if cut.is_empty() {
+            return Ok(());
+        }
+        self.put_one(rt, cut)
+    }
+
+    fn put_one<R: Wait>(&self, rt: &R, cut: Vec<Source<'a>>) -> Result<(), AllocError> {
         self.waiting.lock(rt).cuts.push_back(cut)?;
         self.changed.notify_one();
         Ok(())

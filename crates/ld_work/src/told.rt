@@ -21,8 +21,9 @@ const TRACES: usize = 8;
 // No clause cites the constants, so all would hold with any other numbers.
 const _: () = prove!(TRACES == 1 << 3);
 
-/// How many bytes are handed on together by `Portion::Bytes`.
-const BYTES: usize = 65_536;
+/// How many bytes are handed on together by `Portion::Bytes`, and how many a worker gets together of a stream that is
+/// read meanwhile.
+pub(crate) const BYTES: usize = 65_536;
 
 const _: () = prove!(BYTES == 1 << 16);
 
@@ -139,7 +140,7 @@ impl<'a, S: Scope, H: Room> Told<'a, S, H> {
 }
 
 /// How many bytes a trace has, with a header of one blank and LF.
-fn length_of(source: &Source<'_>) -> usize {
+pub(crate) fn length_of(source: &Source<'_>) -> usize {
     HEADER
         .saturating_add(source.name.len())
         .saturating_add(source.bytes.len())

@@ -11,7 +11,7 @@ use Rattle.ld_trace.specs.Events.{Position}
 use Rattle.ld_trace.specs.Lines.{lines}
 use Rattle.ld_trace.specs.Sources.{PlainSource, is_header, is_other, opened_at, plain, section_at, sources, stream_fault}
 use Rattle.ld_trace.proofs.NumberLemmas.{numbered}
-use Rattle.ld_rules.specs.Outcome.{faulty_lines, outcome, outcome_by}
+use Rattle.ld_reduce.specs.Outcome.{faulty_lines, outcome, outcome_by}
 use Rattle.ld_check.specs.OfReport.OfBook.Totals.{is_refused, refused_count}
 use Rattle.ld_trace.specs.declared.source.Source.{Source}
 use Rattle.ld_origin.specs.declared.origin.Home.{Home}

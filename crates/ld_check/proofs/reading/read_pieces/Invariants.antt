@@ -1,8 +1,7 @@
 -- What was read so far are the pieces, and what is ahead of them.
 use Rattle.std.proofs.Common.{◌≡◌, ◌+◌, ◌++◌, ◌≤◌, false, length, vec_len}
 use Rattle.std.specs.Io.KnownBytes.{Consumes}
-use Rattle.ld_io.specs.declared.transfer.TheConstants.{MOST_READ}
-use Rattle.ld_pieces.specs.declared.reading.TheConstants.{CHUNK}
+use Rattle.ld_io.specs.declared.transfer.TheConstants.{CHUNK, MOST_READ}
 use Rattle.ld_check.proofs.reading.read_pieces.Given as goal
 
 abbrev pub invariant-loop-cell : goal.invariant-loop-cell

@@ -1,6 +1,7 @@
 use Rattle.std.proofs.Common.{ap, arith, ◌-◌}
 use Rattle.ld_io.specs.declared.transfer.TheConstants.{MOST_READ}
-use Rattle.ld_pieces.proofs.PieceLemmas.{at-most-more, gains-more, gains-most, gains-whole}
+use Rattle.ld_io.proofs.Transfers.{at-most-more, gains-more, gains-most}
+use Rattle.ld_pieces.proofs.PieceLemmas.{gains-whole}
 use Rattle.ld_pieces.proofs.reading.read_piece.Goals as goal
 
 pub returns-in_err-read_up_to-clause-most : goal.returns-in_err-read_up_to-clause-most

@@ -1,8 +1,8 @@
 use Rattle.std.proofs.Common.{◌≡◌, ◌+◌, ◌-◌, ◌≤◌, false, length, vec_len}
 use Rattle.std.specs.Io.KnownBytes.{Consumes}
 use Rattle.ld_io.specs.Inner.Reading.{Gains}
-use Rattle.ld_io.specs.declared.transfer.TheConstants.{MOST_READ}
-use Rattle.ld_pieces.specs.declared.reading.TheConstants.{CHUNK, PIECE}
+use Rattle.ld_io.specs.declared.transfer.TheConstants.{CHUNK, MOST_READ}
+use Rattle.ld_pieces.specs.declared.reading.TheConstants.{PIECE}
 use Rattle.ld_pieces.proofs.reading.read_piece.Given as goal
 
 abbrev pub invariant-reads : goal.invariant-reads

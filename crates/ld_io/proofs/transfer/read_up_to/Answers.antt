@@ -1,6 +1,6 @@
 use Rattle.std.proofs.Common.{arith, length-take, ℕ}
-use Rattle.ld_pieces.proofs.PieceLemmas.{at-most-more, gains-most}
-use Rattle.ld_pieces.proofs.reading.read_up_to.Goals as goal
+use Rattle.ld_io.proofs.Transfers.{at-most-more, gains-most}
+use Rattle.ld_io.proofs.transfer.read_up_to.Goals as goal
 
 pub returns-in_err-read_more-clause-most : goal.returns-in_err-read_more-clause-most
 returns-in_err-read_more-clause-most g c =

@@ -1,8 +1,8 @@
 use Rattle.std.proofs.Common.{◌≡◌, ◌-◌, ◌≤◌, false, length, vec_len}
 use Rattle.std.specs.Io.KnownBytes.{Consumes}
 use Rattle.ld_io.specs.Inner.Reading.{Gains}
-use Rattle.ld_pieces.specs.declared.reading.TheConstants.{CHUNK}
-use Rattle.ld_pieces.proofs.reading.read_up_to.Given as goal
+use Rattle.ld_io.specs.declared.transfer.TheConstants.{CHUNK}
+use Rattle.ld_io.proofs.transfer.read_up_to.Given as goal
 
 abbrev pub invariant-chunks : goal.invariant-chunks
 invariant-chunks g l = record {
