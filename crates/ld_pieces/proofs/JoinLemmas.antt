@@ -1,12 +1,12 @@
 -- The traces of two pieces of a stream, one behind the other.
-use Rattle.std.proofs.Common.{◌≡◌, ◌+◌, ◌<◌, ◌≤◌, ◌⊎◌, ◌∙◌, ◌++◌, ◌∷◌, [], ℕ, zero, suc, List, Bool, true, false, not, cond, Option, None, Some, length, map, take, drop, count_by, filter_map, refl, sym, ap, subst, arith, append_assoc, append-nil, length-append, ⊎_elim, eqb, get_or, slice_get}
-use Rattle.std.proofs.lemmas.List.{map-append, get_or-drop}
+use Rattle.std.proofs.Common.{◌≡◌, ◌+◌, ◌<◌, ◌≤◌, ◌⊎◌, inl, inr, ◌∙◌, ◌++◌, ◌∷◌, [], ℕ, zero, suc, List, Bool, true, false, cond, Option, None, Some, length, map, take, drop, count_by, refl, sym, ap, subst, arith, append_assoc, ⊎_elim, eqb, get_or, slice_get}
+use Rattle.std.proofs.lemmas.List.{get_or-drop}
 use Rattle.std.proofs.lemmas.List.Sums.{sum_by-append}
 use Rattle.std.proofs.Math.Numerals.{one-add}
 use Rattle.std.proofs.lemmas.Bool.Decides.{eqb_tells}
 use Rattle.std.proofs.lemmas.Option.{same_Some}
 use Rattle.std.specs.Prelude.{◌==◌, is_some, unwrap_or, if◌then◌else◌}
-use Rattle.std.specs.List.{concat, cons_option, enumerate_from, onto_first, prefix_len, take_while}
+use Rattle.std.specs.List.{concat, cons_option, onto_first, prefix_len, take_while}
 use Rattle.ld_trace.specs.declared.source.StreamFault.{StreamFault}
 use Rattle.ld_trace.specs.declared.source.StreamFault.TheVariants.{BadHeader, NoHeader, TooManyTraces}
 use Rattle.ld_trace.specs.declared.source.TheConstants.{MOST_TRACES}
@@ -280,3 +280,67 @@ begins-with-header bytes s rest is first = by (lines bytes) (sym (sections-given
         header : (head : Bool) → is_header x ≡ head → given section 0 0 (x ∷ xs) ≡ s ∷ rest → prefix_len is_other (x ∷ xs) ≡ 0
         header true head is' = rw head refl
         header false head is' = absurd (let later = lines-above 0 1 xs s rest (rw head at is') in omega (arith, later, first))
+
+-- THE LINES OF THE LAST TRACE
+
+-- each of these lines has one LF
+abbrev AreEnded : List (List ℕ) → Type 0
+AreEnded [] = Unit
+AreEnded (x ∷ xs) = (lfs x ≡ 1) × AreEnded xs
+
+lines-ended : (front : List ℕ) → AreEnded (lines (front ++ 10 ∷ []))
+lines-ended [] = (refl, tt)
+lines-ended (b ∷ front) = by (b == 10) refl (lines (front ++ 10 ∷ [])) (lines-many front).0 (lines-ended front)
+  where
+    by : (lf : Bool) → (b == 10) ≡ lf → (rest : List (List ℕ)) → 0 < length rest → AreEnded rest → AreEnded (if b == 10 then (b ∷ []) ∷ rest else onto_first b rest)
+    by true is rest some ended = let one : cond {A = ℕ} (b == 10) 1 0 ≡ 1 = ap (λ t. cond {A = ℕ} t 1 0) is in rw is (omega (arith, one), ended)
+    by false is [] some ended = absurd (omega arith)
+    by false is (x ∷ xs) some ended = let none : cond {A = ℕ} (b == 10) 1 0 ≡ 0 = ap (λ t. cond {A = ℕ} t 1 0) is in rw is (omega (arith, none, ended.0), ended.1)
+
+lfs-append : (xs ys : List ℕ) → lfs (xs ++ ys) ≡ lfs xs + lfs ys
+lfs-append [] ys = omega arith
+lfs-append (x ∷ xs) ys = omega (arith, lfs-append xs ys)
+
+lfs-ended : (xs : List (List ℕ)) → AreEnded xs → lfs (concat xs) ≡ length xs
+lfs-ended [] ended = refl
+lfs-ended (x ∷ xs) ended = omega (arith, lfs-append x (concat xs), ended.0, lfs-ended xs ended.1)
+
+-- lines that open no section are no headers
+none-opened : (h l : ℕ) (xs : List (List ℕ)) → given section h l xs ≡ [] → take_while is_other xs ≡ xs
+none-opened h l [] none = refl
+none-opened h l (x ∷ xs) none = by (is_header x) refl (none-opened (h + 0) (l + 1) xs)
+  where
+    by : (head : Bool) → is_header x ≡ head → (given section (h + 0) (l + 1) xs ≡ [] → take_while is_other xs ≡ xs) → take_while is_other (x ∷ xs) ≡ x ∷ xs
+    by true is later = absurd (let some = rw is at none in cc)
+    by false is later = rw is (one-more (prefix_len is_other xs) x xs ∙ ap (λ all. x ∷ all) (later (rw is at none)))
+
+-- the last section has all lines behind its header
+last-lines : (h l : ℕ) (xs : List (List ℕ)) (front : List PlainSource) (s : PlainSource) → AreEnded xs → given section h l xs ≡ front ++ s ∷ []
+    → (s.first_line + lfs s.bytes ≡ l + length xs + 1) × (2 ≤ s.first_line)
+last-lines h l [] [] s ended is = absurd (cc)
+last-lines h l [] (t ∷ front) s ended is = absurd (cc)
+last-lines h l (x ∷ xs) front s ended is = by (is_header x) refl front is (λ n t. last-lines (h + n) (l + 1) xs t s ended.1)
+  where
+    by : (head : Bool) → is_header x ≡ head → (f : List PlainSource) → given section h l (x ∷ xs) ≡ f ++ s ∷ []
+        → ((n : ℕ) (t : List PlainSource) → given section (h + n) (l + 1) xs ≡ t ++ s ∷ [] → (s.first_line + lfs s.bytes ≡ l + 1 + length xs + 1) × (2 ≤ s.first_line))
+        → (s.first_line + lfs s.bytes ≡ l + length (x ∷ xs) + 1) × (2 ≤ s.first_line)
+    by false head f told later = let rest = later 0 f (rw head at told) in (omega (arith, rest.0), rest.1)
+    by true head (t ∷ f) told later = let rest = later 1 f (ap (drop 1) (rw head at told)) in (omega (arith, rest.0), rest.1)
+    by true head [] told later =
+        let both = rw head at told in
+        let own : concat (take_while is_other xs) ≡ concat xs = ap concat (none-opened (h + 1) (l + 1) xs (ap (drop 1) both)) in
+        let first : l + 2 ≡ s.first_line = ap (λ (all : List PlainSource). (get_or all 0 s).first_line) both in
+        let bytes : concat xs ≡ s.bytes = sym own ∙ ap (λ (all : List PlainSource). (get_or all 0 s).bytes) both in
+        (omega (arith, sym first, ap lfs bytes, lfs-ended xs ended.1), omega (arith, first))
+
+-- so the lines before it and its own are all
+pub last-counts : (bytes : List ℕ) (front : List PlainSource) (s : PlainSource) → (bytes ≡ []) ⊎ EndsLine bytes → sources bytes ≡ front ++ s ∷ []
+    → (s.first_line + count_by is_lf s.bytes ≡ count_by is_lf bytes + 1) × (2 ≤ s.first_line)
+last-counts bytes [] s (inl none) is = absurd (let gone = ap sources (sym none) ∙ is in cc)
+last-counts bytes (t ∷ front) s (inl none) is = absurd (let gone = ap sources (sym none) ∙ is in cc)
+last-counts bytes front s (inr ends) is =
+    let ended = subst (λ all. AreEnded (lines all)) (sym ends.1) (lines-ended ends.0) in
+    let all = last-lines 0 0 (lines bytes) front s ended (sym (sections-given (lines bytes)) ∙ is) in (
+      omega (arith, all.0, lines-counted bytes ends, lfs-count s.bytes),
+      all.1,
+    )

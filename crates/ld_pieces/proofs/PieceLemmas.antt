@@ -1,7 +1,7 @@
 -- One element more of what loops over sources, pieces and reads have done.
-use Rattle.std.proofs.Common.{◌≡◌, ◌+◌, ◌-◌, ◌<◌, ◌≤◌, ◌⊎◌, inl, inr, ◌∙◌, ◌++◌, ◌∷◌, [], ℕ, List, Option, Some, None, map, take, length, get_or, refl, sym, ap, arith, append_assoc, append-nil, length-append, slice_get, Result, Ok, Err, IfSome, Bool, true, false, nat_lt, count_by, subst, if◌then◌else◌}
+use Rattle.std.proofs.Common.{◌≡◌, ◌+◌, ◌-◌, ◌<◌, ◌≤◌, ◌⊎◌, inl, inr, ◌∙◌, ◌++◌, ◌∷◌, [], ℕ, List, Option, Some, map, take, drop, set, suc, zero, length, get_or, refl, sym, ap, arith, append_assoc, append-nil, length-append, slice_get, Result, Ok, Err, IfSome, Bool, true, false, nat_lt, count_by, subst, if◌then◌else◌}
 use Rattle.std.proofs.lemmas.Bool.{true≢false}
-use Rattle.std.proofs.lemmas.List.{length-map, map-append, take_all, take_more}
+use Rattle.std.proofs.lemmas.List.{drop-drop, drop-set-lt, get_or-drop, length-map, map-append, take-append-le, take_all, take_more}
 use Rattle.std.proofs.lemmas.Option.{same_Some}
 use Rattle.std.proofs.KnownBytes.{Consumes-nil}
 use Rattle.std.specs.Io.KnownBytes.{Consumes}
@@ -16,7 +16,7 @@ use Rattle.ld_trace.specs.Lines.{lines}
 use Rattle.ld_trace.specs.Inner.Splitting.{is_lf}
 use Rattle.ld_trace.specs.Sources.{PlainSource, line_faults, plain, sources, stream_fault}
 use Rattle.ld_pieces.specs.Pieces.{BeginsWithHeader, EndsLine, IsCut, IsCutBehind, moved}
-use Rattle.ld_pieces.proofs.JoinLemmas.{begins-with-header, cut-behind, cut-first, unequal}
+use Rattle.ld_pieces.proofs.JoinLemmas.{begins-with-header, cut-behind, cut-first, last-counts, unequal}
 
 -- sources that were moved, one by one
 pub moved-more : (traces before : ℕ) (found old new : List Source) (i : ℕ) (d x : Source) → i < length found
@@ -30,9 +30,47 @@ moved-more traces before found old new i d x within so_far same is =
     ∙ ap (map (moved traces before)) (sym (map-append plain (take i found) (get_or found i d ∷ [])))
     ∙ ap (λ all. map (moved traces before) (map plain all)) (sym (take_more found i d within))
 
-pub moved-whole : (traces before : ℕ) (found now : List Source) (i : ℕ) → length found ≤ i → map plain now ≡ map (moved traces before) (map plain (take i found))
-    → map plain now ≡ map (moved traces before) (map plain found)
-moved-whole traces before found now i all so_far = so_far ∙ ap (λ these. map (moved traces before) (map plain these)) (take_all i found all)
+pub moved-whole : (traces before : ℕ) (old now : List Source) (i : ℕ) → length old ≤ i → length now ≡ length old
+    → map plain (take i now) ≡ map (moved traces before) (map plain (take i old)) → map plain now ≡ map (moved traces before) (map plain old)
+moved-whole traces before old now i all same so_far =
+    ap (map plain) (sym (take_all i now (omega (arith, all, same)))) ∙ so_far ∙ ap (λ these. map (moved traces before) (map plain these)) (take_all i old all)
+
+-- a list that was moved as a slice
+pub written : (old now : List Source) (n : ℕ) → n ≡ length old → length now ≡ length old → take n (now ++ drop (length now) old) ≡ now
+written old now n whole same =
+    take-append-le n now (drop (length now) old) (omega (arith, whole, same)) ∙ take_all n now (omega (arith, whole, same))
+
+-- those that aren't moved yet
+pub same-at : (xs ys : List Source) (i : ℕ) (d : Source) → drop i xs ≡ drop i ys → get_or xs i d ≡ get_or ys i d
+same-at xs ys i d is = sym (front xs) ∙ ap (λ all. get_or all 0 d) is ∙ front ys
+  where
+    front : (zs : List Source) → get_or (drop i zs) 0 d ≡ get_or zs i d
+    front zs = get_or-drop i zs 0 d ∙ ap (λ n. get_or zs n d) (omega arith)
+
+pub same-behind : (xs ys : List Source) (i : ℕ) (x : Source) → drop i xs ≡ drop i ys → drop (i + 1) (set xs i x) ≡ drop (i + 1) ys
+same-behind xs ys i x is =
+    drop-set-lt (i + 1) xs i x (omega arith) ∙ sym (further xs) ∙ ap (drop 1) is ∙ further ys
+  where
+    further : (zs : List Source) → drop 1 (drop i zs) ≡ drop (i + 1) zs
+    further zs = drop-drop 1 i zs ∙ ap (λ n. drop n zs) (omega arith)
+
+-- the lines of all that has come, by the last trace
+pub counted-last : (bytes : List ℕ) (told : List Source) (s : Source) → IsCut bytes (map plain told) → (bytes ≡ []) ⊎ EndsLine bytes
+    → slice_get told (length told - 1) ≡ Some s → (s.first_line + count_by is_lf s.bytes.now ≡ count_by is_lf bytes + 1) × (2 ≤ s.first_line)
+counted-last bytes [] s cut whole is = absurd (cc)
+counted-last bytes (t ∷ ts) s cut whole is =
+    let k : length (t ∷ ts) - 1 ≡ length ts = omega arith in
+    let found = last-of (t ∷ ts) (length ts) s (omega arith) (ap (slice_get (t ∷ ts)) (sym k) ∙ is) in
+    by found.0 found.1
+  where
+    by : (front : List Source) → t ∷ ts ≡ front ++ s ∷ [] → (s.first_line + count_by is_lf s.bytes.now ≡ count_by is_lf bytes + 1) × (2 ≤ s.first_line)
+    by front same = last-counts bytes (map plain front) (plain s) whole (sym cut.same ∙ ap (map plain) same ∙ map-append plain front (s ∷ []))
+
+    last-of : {X : Type 0} (xs : List X) (n : ℕ) (x : X) → length xs ≡ suc n → slice_get xs n ≡ Some x → (front : List X) × (xs ≡ front ++ x ∷ [])
+    last-of [] n x long is = absurd (omega arith)
+    last-of (y ∷ []) zero x long is = ([], ap (λ z. z ∷ []) (same_Some y x is))
+    last-of (y ∷ z ∷ zs) zero x long is = absurd (omega arith)
+    last-of (y ∷ xs) (suc n) x long is = let rest = last-of xs n x (omega arith) is in (y ∷ rest.0, ap (λ all. y ∷ all) rest.1)
 
 -- the first source stands behind the first line
 pub header-first : (bytes : List ℕ) (found : List Source) (s : Source) → map plain found ≡ sources bytes → slice_get found 0 ≡ Some s → s.first_line ≡ 2 → BeginsWithHeader bytes

@@ -28,7 +28,7 @@ pub(crate) fn cut_behind<'a>(
     ensures header { is_first ≡ false → IfOk result (λ answer. IfSome answer (λ _.
         BeginsWithHeader piece.entry.now)) }
 {
-    let sources = match split(alloc, piece) {
+    let mut sources = match split(alloc, piece) {
         Ok(sources) => sources,
         Err(StreamFault::Memory) => return Err(AllocError),
         Err(_) => return Ok(None),
@@ -39,8 +39,8 @@ pub(crate) fn cut_behind<'a>(
     if sources.len() as u64 > MOST_TRACES - traces {
         return Ok(None);
     }
-    let more = moved_on(alloc, &sources, traces, lines)?;
-    Ok(Some(more))
+    move_on(&mut sources, traces, lines);
+    Ok(Some(sources))
 }
 
 /// Whether the piece begins with a header, by its sources.
@@ -54,29 +54,17 @@ fn begins_with_header(_piece: &[u8], found: &[Source<'_>]) -> bool
     }
 }
 
-/// The same sources with so many traces and lines before them.
-fn moved_on<'a>(
-    alloc: Global,
-    sources: &[Source<'a>],
-    traces: u64,
-    lines: u64,
-) -> Result<Vec<Source<'a>>, AllocError>
+/// Moves sources to where so many traces and lines come before them.
+fn move_on(sources: &mut [Source<'_>], traces: u64, lines: u64)
     requires traces { traces ≤ MOST_TRACES }
     requires lines { lines ≤ LONGEST_STREAM + 1 }
-    requires fit { All (λ source. Fits (plain source)) sources.now }
-    ensures { IfOk result (λ more.
-        map plain more.items ≡ map (moved traces lines) (map plain sources.now)) }
+    requires fit { All (λ source. Fits (plain source)) sources.old }
+    ensures { map plain sources.new ≡ map (moved traces lines) (map plain sources.old) }
 {
-    let mut more = Vec::with_capacity(alloc, sources.len())?;
-    for source in sources {
-        more.push(Source {
-            number: source.number + traces,
-            name: source.name,
-            first_line: source.first_line + lines,
-            bytes: source.bytes,
-        })?;
+    for source in sources.iter_mut() {
+        source.number += traces;
+        source.first_line += lines;
     }
-    Ok(more)
 }
 
 /// How many LFs there are.

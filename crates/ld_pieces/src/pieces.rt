@@ -3,7 +3,7 @@ ghost use Rattle.std.specs.Prelude.{◌≡◌, ◌≢◌, ◌≤◌, ◌+◌, �
 ghost use Rattle.ld_io.specs.declared.transfer.TheConstants.{MOST_READ};
 ghost use Rattle.ld_trace.specs.Inner.Splitting.{is_lf};
 ghost use Rattle.ld_trace.specs.Sources.{AreNumbered, plain, sources, stream_fault};
-ghost use Rattle.ld_pieces.specs.Pieces.{EndsLine};
+ghost use Rattle.ld_pieces.specs.Pieces.{EndsLine, IsCut};
 
 use crate::cut::{count_lines, cut_behind, ends_line};
 use ld_trace::{LONGEST_STREAM, Source};
@@ -15,16 +15,14 @@ use std::marker::Model;
 struct Came<'a> {
     pieces: Vec<&'a [u8]>,
     len: usize,
-    lines: u64,
     /// The last byte is an LF.
     ends_line: bool,
 }
 
 impl<'a> Model for Came<'a> {
-    ghost use Rattle.std.specs.Prelude.{◌≡◌, ◌≤◌, List, ℕ, count_by, length, map, true};
+    ghost use Rattle.std.specs.Prelude.{◌≡◌, ◌≤◌, List, ℕ, length, map, true};
     ghost use Rattle.std.specs.List.{concat};
     ghost use Rattle.ld_io.specs.declared.transfer.TheConstants.{MOST_READ};
-    ghost use Rattle.ld_trace.specs.Inner.Splitting.{is_lf};
     ghost use Rattle.ld_pieces.specs.Pieces.{EndsLine};
 
     ghost Value = { List ℕ };
@@ -33,8 +31,6 @@ impl<'a> Model for Came<'a> {
 
     ghost invariant = { λ c. (c.len ≡ length (concat (map (λ piece. piece.now) c.pieces.items)))
         × (c.len ≤ MOST_READ)
-        × (c.lines ≡ count_by is_lf (concat (map (λ piece. piece.now) c.pieces.items)))
-        × (c.lines ≤ c.len)
         × (c.ends_line ≡ true → EndsLine (concat (map (λ piece. piece.now) c.pieces.items))) };
 }
 
@@ -45,7 +41,6 @@ impl<'a> Came<'a> {
         Came {
             pieces: Vec::new(alloc),
             len: 0,
-            lines: 0,
             ends_line: false,
         }
     }
@@ -54,14 +49,6 @@ impl<'a> Came<'a> {
         ensures { result ≡ length self.now }
     {
         self.len
-    }
-
-    /// How many LFs have come.
-    fn lines(&self) -> u64
-        ensures lines { result ≡ count_by is_lf self.now }
-        ensures few { result ≤ MOST_READ }
-    {
-        self.lines
     }
 
     /// Whether the next piece begins a line.
@@ -79,7 +66,6 @@ impl<'a> Came<'a> {
     {
         self.pieces.push(piece)?;
         self.len += piece.len();
-        self.lines += count_lines(piece);
         self.ends_line = ends_line(piece);
         Ok(())
     }
@@ -94,6 +80,23 @@ impl<'a> Came<'a> {
         }
         Ok(all)
     }
+}
+
+/// How many LFs have come, of which these are the traces. Only those of the last trace are counted: its first line has
+/// those before it.
+fn count_come(alloc: Global, came: &Came<'_>, traces: &[Source<'_>]) -> Result<u64, AllocError>
+    requires cut { IsCut came.now (map plain traces.now) }
+    requires whole { (came.now ≡ []) ⊎ EndsLine came.now }
+    requires few { length came.now ≤ MOST_READ }
+    ensures lines { IfOk result (λ lines. lines ≡ count_by is_lf came.now) }
+    ensures few { IfOk result (λ lines. lines ≤ MOST_READ) }
+{
+    let Some(last) = traces.last() else {
+        // Comments alone, which is rare.
+        let all = came.joined(alloc)?;
+        return Ok(count_lines(&all));
+    };
+    Ok(last.first_line + count_lines(last.bytes) - 1)
 }
 
 /// The pieces of a stream that have come, in order, with the traces of all of them. It is seen as their bytes.
@@ -151,7 +154,8 @@ impl<'a> Pieces<'a> {
             self.is_cut = false;
             return self.came.push(piece);
         }
-        let (traces, lines) = (self.traces.len() as u64, self.came.lines());
+        let traces = self.traces.len() as u64;
+        let lines = count_come(alloc, &self.came, &self.traces)?;
         let more = cut_behind(alloc, piece, traces, lines, self.came.len() == 0)?;
         self.is_cut = false;
         self.came.push(piece)?;

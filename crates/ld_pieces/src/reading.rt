@@ -6,7 +6,7 @@ ghost use Rattle.ld_io.specs.Inner.Reading.{Gains};
 ghost use Rattle.ld_io.specs.Transfer.{ConsumesAtMost};
 
 use ld_io::{CHUNK, Input, MOST_READ, ReadFault, read_up_to};
-use memchr::memrchr;
+use memchr::{memmem, memrchr};
 use std::alloc::{AllocError, Global};
 
 /// How many bytes a piece has at least, as far as whole traces are as many.
@@ -30,6 +30,8 @@ pub struct Read {
 fn last_header(bytes: &[u8], from: usize) -> Option<usize>
     ensures { IfSome result (λ at. at ≤ length bytes.now) }
 {
+    // A long trace is searched as a whole, since most of its reads have no header.
+    memmem::find(bytes.get(from..)?, b"\ntrace ")?;
     let mut end = bytes.len();
     'lines: while from < end {
         let line = from + memrchr(b'\n', &bytes[from..end])?;

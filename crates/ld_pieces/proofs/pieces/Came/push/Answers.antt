@@ -1,7 +1,5 @@
-use Rattle.std.proofs.Common.{Bor, List, ap, arith, cond, count_by, length, length-append, map, subst, sym, ℕ, ◌++◌, ◌≡◌, ◌∙◌}
-use Rattle.std.proofs.lemmas.List.Sums.{sum_by-append}
+use Rattle.std.proofs.Common.{Bor, List, ap, arith, length, length-append, map, subst, sym, ℕ, ◌++◌, ◌≡◌, ◌∙◌}
 use Rattle.std.specs.List.{concat}
-use Rattle.ld_trace.specs.Inner.Splitting.{is_lf}
 use Rattle.ld_pieces.specs.Pieces.{EndsLine}
 use Rattle.ld_pieces.proofs.JoinLemmas.{ends-behind}
 use Rattle.ld_pieces.proofs.PieceLemmas.{concat-push}
@@ -18,12 +16,9 @@ invariant_of-self-2 c =
     ap joined c.in_ok-push.ensures.items ∙ concat-push (λ (p : Bor (List ℕ)). p.now) c.self.inside.pieces.items c.args.piece in
     let i = c.self.invariant in
     let within = c.requires in
-    let long = length-append bytes piece in
-    let counted = sum_by-append (λ x. cond (is_lf x) 1 0) bytes piece in (
+    let long = length-append bytes piece in (
       omega (arith, ap length whole, long, i.0),
       omega (arith, within, i.0, ap length c.self.view_is),
-      omega (arith, i.2, c.count_lines.ensures.count, counted, ap (count_by is_lf) whole),
-      omega (arith, i.3, c.count_lines.ensures.few),
       (λ ended. subst EndsLine (sym whole) (ends-behind bytes piece (c.ends_line-self-inside.ensures ended))),
     )
 
