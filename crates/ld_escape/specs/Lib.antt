@@ -1,3 +1,4 @@
 pub mod Forms
+pub mod Messages
 pub mod Shown
 pub mod Written

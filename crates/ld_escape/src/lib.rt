@@ -4,8 +4,10 @@
 
 mod escaping;
 mod form;
+mod messages;
 mod shown;
 
 pub use escaping::write_escaped;
 pub use form::Form;
+pub use messages::write_message;
 pub use shown::is_shown;
