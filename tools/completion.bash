@@ -41,9 +41,10 @@ _lockgraph() {
         cut) options='--lines' workers= ;;
         dot) options='--all --around --class --map' ;;
         explain) options='--class --map --most --only' ;;
-        github | junit | sarif) options='--map --strip' ;;
-        html) options='--map --source' ;;
-        json | ktap) options='--map' ;;
+        github | junit | sarif) options='--known --map --most --strip' ;;
+        html) options='--known --map --most --source' ;;
+        json) options='--map --most' ;;
+        ktap) options='--known --map --most' ;;
         list) options='--class --dependencies --dependency' ;;
         new) options='--fixed --known' ;;
         reduce) options='--from --keep-refused' ;;

@@ -1,7 +1,7 @@
 //! The arguments of the commands that write for other programs: `sarif`, `github`, `junit`, `ktap` and `html`.
 
-use crate::mapped::{Mapped, named_map, read_mapped};
-use crate::words::{VERSION, count_of_workers, named_files};
+use crate::mapped::{Mapped, named_map, read_mapped_beside};
+use crate::words::{VERSION, count_of_workers, most_told, named_files, read_most};
 use clap::error::ErrorKind;
 use clap::{Arg, ArgAction, ArgMatches, Command, Error};
 use ld_formats::{Format, Stripped};
@@ -12,7 +12,7 @@ const AFTER_SARIF: &str = "\
 The form is SARIF 2.1.0: a result for each violation, with a flow for each step of its cycle or path. With a map, as for
 explain, the locations are source lines, otherwise lines of traces.
 
-Exit status: that of lockcheck.
+Exit status: that of lockcheck, with --known that of new.
 
 Example:
   lockgraph sarif --map run.trace.places --strip /home/you/project run.trace > run.sarif";
@@ -23,7 +23,7 @@ The answer is workflow commands of GitHub: an error for each violation, a warnin
 with their numbers. GitHub shows what a step prints in this form beside the lines of the change. With a map, as for
 explain, these are source lines, otherwise lines of traces.
 
-Exit status: that of lockcheck.
+Exit status: that of lockcheck, with --known that of new.
 
 Example:
   lockgraph github --map run.trace.places --strip /home/you/project run.trace";
@@ -33,7 +33,7 @@ const AFTER_JUNIT: &str = "\
 The answer is a test suite as JUnit's XML: a case for the traces, and a failed case for each group of violations that
 share dependencies. With a map, as for explain, it has source lines too.
 
-Exit status: that of lockcheck.
+Exit status: that of lockcheck, with --known that of new.
 
 Example:
   lockgraph junit --map run.trace.places --strip /home/you/project run.trace > run.xml";
@@ -43,7 +43,7 @@ const AFTER_KTAP: &str = "\
 The form is KTAP version 1, which readers of TAP take too: a test for the traces, and a failed test for each group of
 violations that share dependencies, with their explanation as comments.
 
-Exit status: that of lockcheck.
+Exit status: that of lockcheck, with --known that of new.
 
 Example:
   lockgraph ktap --map run.trace.places run.trace";
@@ -56,7 +56,7 @@ With a map, as for explain, each line has the calls that led there. With --sourc
 before it and two behind it. A recorded path stands for the file below DIR that has the longest end of it. The option
 may be given several times.
 
-Exit status: that of lockcheck.
+Exit status: that of lockcheck, with --known that of new.
 
 Example:
   lockgraph html --map run.trace.places --source /home/you/project run.trace > run.html";
@@ -68,11 +68,15 @@ pub struct FormatWords<'a> {
     pub format: Format<'a>,
     /// The folders that sources are looked for in.
     pub folders: Vec<&'a str>,
+    /// The name of the known text, of which no violation is told; `None` for all violations.
+    pub known: Option<&'a str>,
+    /// How many violations are told at most; 0 for all.
+    pub most: u64,
     /// The files with the streams, and their maps.
     pub mapped: Mapped<'a>,
 }
 
-/// `sarif [--strip PREFIX] [--map MAP].. [--workers N] [FILE]..`.
+/// `sarif [--strip PREFIX] [--known KNOWN] [--most N] [--map MAP].. [--workers N] [FILE]..`.
 pub fn sarif_command<'a>(alloc: Global) -> Result<Command<'a>, AllocError> {
     let command = Command::new(alloc, "sarif")
         .about("Write the violations as SARIF, for code scanning")
@@ -81,7 +85,7 @@ pub fn sarif_command<'a>(alloc: Global) -> Result<Command<'a>, AllocError> {
     with_files(alloc, command)
 }
 
-/// `github [--strip PREFIX] [--map MAP].. [--workers N] [FILE]..`.
+/// `github [--strip PREFIX] [--known KNOWN] [--most N] [--map MAP].. [--workers N] [FILE]..`.
 pub fn github_command<'a>(alloc: Global) -> Result<Command<'a>, AllocError> {
     let command = Command::new(alloc, "github")
         .about("Print the violations as annotations, for GitHub workflows")
@@ -90,7 +94,7 @@ pub fn github_command<'a>(alloc: Global) -> Result<Command<'a>, AllocError> {
     with_files(alloc, command)
 }
 
-/// `junit [--strip PREFIX] [--map MAP].. [--workers N] [FILE]..`.
+/// `junit [--strip PREFIX] [--known KNOWN] [--most N] [--map MAP].. [--workers N] [FILE]..`.
 pub fn junit_command<'a>(alloc: Global) -> Result<Command<'a>, AllocError> {
     let command = Command::new(alloc, "junit")
         .about("Write the violations as failed tests, in JUnit's XML")
@@ -99,7 +103,7 @@ pub fn junit_command<'a>(alloc: Global) -> Result<Command<'a>, AllocError> {
     with_files(alloc, command)
 }
 
-/// `ktap [--map MAP].. [--workers N] [FILE]..`.
+/// `ktap [--known KNOWN] [--most N] [--map MAP].. [--workers N] [FILE]..`.
 pub fn ktap_command<'a>(alloc: Global) -> Result<Command<'a>, AllocError> {
     let command = Command::new(alloc, "ktap")
         .about("Print the violations as failed tests, in KTAP")
@@ -107,7 +111,7 @@ pub fn ktap_command<'a>(alloc: Global) -> Result<Command<'a>, AllocError> {
     with_files(alloc, command)
 }
 
-/// `html [--source DIR].. [--map MAP].. [--workers N] [FILE]..`.
+/// `html [--source DIR].. [--known KNOWN] [--most N] [--map MAP].. [--workers N] [FILE]..`.
 pub fn html_command<'a>(alloc: Global) -> Result<Command<'a>, AllocError> {
     let command = Command::new(alloc, "html")
         .about("Write violations, classes and dependencies as a page of HTML")
@@ -134,9 +138,20 @@ fn folder<'a>(alloc: Global) -> Arg<'a> {
         .action(ArgAction::Append)
 }
 
+/// `--known KNOWN`.
+fn known<'a>(alloc: Global) -> Arg<'a> {
+    Arg::new(alloc, "known")
+        .long("known")
+        .value_name("KNOWN")
+        .help("Leave out violations that this report has, as new does")
+        .action(ArgAction::Set)
+}
+
 /// The same command, with the arguments that each of these has.
 fn with_files<'a>(alloc: Global, command: Command<'a>) -> Result<Command<'a>, AllocError> {
     command
+        .arg(known(alloc))?
+        .arg(most_told(alloc))?
         .arg(named_map(alloc))?
         .arg(count_of_workers(alloc))?
         .arg(named_files(alloc))
@@ -185,7 +200,7 @@ fn folders<'a>(
 ///
 /// # Errors
 ///
-/// Those of `read_mapped`, and if it is none of these commands.
+/// Those of `read_mapped_beside`, and if it is none of these commands.
 pub fn read_format<'a>(
     alloc: Global,
     command: &mut Command<'a>,
@@ -196,10 +211,14 @@ pub fn read_format<'a>(
         return Err(command.error(ErrorKind::MissingSubcommand, "a command is missing")?);
     };
     let folders = folders(alloc, name, matches)?;
-    let mapped = read_mapped(alloc, command, matches)?;
+    let known = matches.get_str("known");
+    let most = read_most(matches);
+    let mapped = read_mapped_beside(alloc, command, matches, known)?;
     Ok(FormatWords {
         format,
         folders,
+        known,
+        most,
         mapped,
     })
 }

@@ -1,7 +1,7 @@
 //! The arguments of `json`.
 
 use crate::mapped::{Mapped, named_map, read_mapped};
-use crate::words::{count_of_workers, named_files};
+use crate::words::{count_of_workers, most_told, named_files, read_most};
 use clap::{ArgMatches, Command, Error};
 use std::alloc::{AllocError, Global};
 
@@ -9,7 +9,7 @@ use std::alloc::{AllocError, Global};
 const AFTER_JSON: &str = "\
 The kind of an object is traces, refused, dependency, usage, recursion, inversion, conflict, forbidden, group or, of the
 last one, end. docs/report.schema.json describes each object. With a map, as for explain, each line of a trace has the
-calls that led there, or the line of the kernel's recording.
+calls that led there, or the line of the kernel's recording. With --most the last object still counts all violations.
 
 Exit status: that of lockcheck, which is 1 for violations, 3 for none but a rejected trace, 0 otherwise, 2 if there is
 no whole answer.
@@ -21,15 +21,18 @@ Example:
 /// What `json` is asked.
 #[derive(Drop)]
 pub struct JsonWords<'a> {
+    /// How many violations are told at most; 0 for all.
+    pub most: u64,
     /// The files with the streams, and their maps.
     pub mapped: Mapped<'a>,
 }
 
-/// `json [--map MAP].. [--workers N] [FILE]..`.
+/// `json [--most N] [--map MAP].. [--workers N] [FILE]..`.
 pub fn json_command<'a>(alloc: Global) -> Result<Command<'a>, AllocError> {
     Command::new(alloc, "json")
         .about("Print the report and its explanation as one JSON object a line, for tools")
         .after_help(AFTER_JSON)
+        .arg(most_told(alloc))?
         .arg(named_map(alloc))?
         .arg(count_of_workers(alloc))?
         .arg(named_files(alloc))
@@ -45,6 +48,7 @@ pub fn read_json<'a>(
     command: &mut Command<'a>,
     matches: &ArgMatches<'a>,
 ) -> Result<JsonWords<'a>, Error> {
+    let most = read_most(matches);
     let mapped = read_mapped(alloc, command, matches)?;
-    Ok(JsonWords { mapped })
+    Ok(JsonWords { most, mapped })
 }

@@ -34,11 +34,29 @@ pub fn read_mapped<'a>(
     command: &mut Command<'a>,
     matches: &ArgMatches<'a>,
 ) -> Result<Mapped<'a>, Error> {
+    read_mapped_beside(alloc, command, matches, None)
+}
+
+/// The same, if the command reads this file beside them.
+///
+/// # Errors
+///
+/// Those of `read_mapped`.
+pub fn read_mapped_beside<'a>(
+    alloc: Global,
+    command: &mut Command<'a>,
+    matches: &ArgMatches<'a>,
+    other: Option<&'a str>,
+) -> Result<Mapped<'a>, Error> {
     let maps = match matches.get_strs("map") {
         Some(names) => names.to_vec(alloc)?,
         None => Vec::new(alloc),
     };
-    let given = read_given(alloc, command, matches, &maps)?;
+    let mut others = maps.as_slice().to_vec(alloc)?;
+    if let Some(other) = other {
+        others.push(other)?;
+    }
+    let given = read_given(alloc, command, matches, &others)?;
     if maps.len() > given.files.len() {
         return Err(command.error(
             ErrorKind::ArgumentConflict,

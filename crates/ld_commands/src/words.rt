@@ -231,6 +231,22 @@ fn with<'a>(
     command.subcommand(below?)
 }
 
+/// `--most N`, of which all is the default.
+pub(crate) fn most_told<'a>(alloc: Global) -> Arg<'a> {
+    Arg::new(alloc, "most")
+        .long("most")
+        .value_name("N")
+        .help("Tell at most N violations, and N rejected traces, 0 for all")
+        .action(ArgAction::Set)
+        .default_value("0")
+        .value_parser(value_parser!(u64))
+}
+
+/// How many are told at most; 0 for all.
+pub(crate) fn read_most(matches: &ArgMatches<'_>) -> u64 {
+    matches.get_one::<u64>("most").unwrap_or(0)
+}
+
 /// `--workers N`.
 pub(crate) fn count_of_workers<'a>(alloc: Global) -> Arg<'a> {
     Arg::new(alloc, "workers")

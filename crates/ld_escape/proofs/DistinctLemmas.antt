@@ -15,9 +15,9 @@ same_byte : (a b : ℕ) → a / 16 ≡ b / 16 → a % 16 ≡ b % 16 → a ≡ b
 same_byte a b hi lo = omega arith
 
 -- what two bytes are, of which the same is written, with the same behind it
-record Same (a b : ℕ) (xs ys : List ℕ) : Type 0 where
-  byte : a ≡ b
-  rest : xs ≡ ys
+pub record Same (a b : ℕ) (xs ys : List ℕ) : Type 0 where
+  pub byte : a ≡ b
+  pub rest : xs ≡ ys
 
 same_number : (a b : ℕ) (xs ys : List ℕ) → hex a ++ xs ≡ hex b ++ ys → Same a b xs ys
 same_number a b xs ys e =
@@ -67,7 +67,7 @@ module _ (lead : ℕ) (more close : List ℕ) where
   nonempty false false b xs e = cc
 
 -- a byte that a test answers otherwise is another one
-other : (test : ℕ → Bool) (b c : ℕ) → test c ≡ true → test b ≡ false → b ≢ c
+pub other : (test : ℕ → Bool) (b c : ℕ) → test c ≡ true → test b ≡ false → b ≢ c
 other test b c at_c at_b e = let same = ap test e in cc
 
 -- in a form without hidden bytes
@@ -105,7 +105,7 @@ begun Uri s b xs = nonempty 37 [] [] (is_marked Uri s b) false b xs
 begun Class s b xs = nonempty 37 [] [] (is_marked Class s b) false b xs
 begun Task s b xs = nonempty 37 [] [] (is_marked Task s b) false b xs
 
-same_names : (form : Form) (s t : Bool) (xs ys : List ℕ) → flat_map (piece form s) xs ≡ flat_map (piece form t) ys → xs ≡ ys
+pub same_names : (form : Form) (s t : Bool) (xs ys : List ℕ) → flat_map (piece form s) xs ≡ flat_map (piece form t) ys → xs ≡ ys
 same_names form s t [] [] e = refl
 same_names form s t [] (y ∷ ys) e = absurd (begun form t y _ (sym e))
 same_names form s t (x ∷ xs) [] e = absurd (begun form s x _ e)

@@ -1,2 +1,3 @@
 pub mod DistinctLemmas
+pub mod MessageLemmas
 pub mod SafeLemmas

@@ -1,4 +1,5 @@
 pub mod Forms
+pub mod Messages
 pub mod Shown
 pub mod Visible
 pub mod Written

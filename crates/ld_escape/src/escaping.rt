@@ -27,7 +27,12 @@ pub fn write_escaped(out: &mut Vec<u8>, form: Form, name: &[u8]) -> Result<(), A
 }
 
 /// Writes the bytes of a name that is shown, or of one that isn't.
-fn write_pieces(out: &mut Vec<u8>, form: Form, shown: bool, name: &[u8]) -> Result<(), AllocError>
+pub(crate) fn write_pieces(
+    out: &mut Vec<u8>,
+    form: Form,
+    shown: bool,
+    name: &[u8],
+) -> Result<(), AllocError>
     ensures { OnOk result (out.new.items ≡ out.old.items ++ flat_map (piece form shown) name.now) }
 {
     let mut rest = name;

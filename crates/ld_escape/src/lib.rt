@@ -4,10 +4,12 @@
 
 mod escaping;
 mod form;
+mod messages;
 mod shown;
 mod visible;
 
 pub use escaping::write_escaped;
 pub use form::Form;
+pub use messages::write_message;
 pub use shown::is_shown;
 pub use visible::{write_on_line, write_visible};

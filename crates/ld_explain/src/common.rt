@@ -5,10 +5,35 @@ use crate::sightings::Sightings;
 use crate::violations::Step;
 use ld_overview::{Book, ClassName};
 use ld_replay::task_of;
+use ld_rows::{Common, CommonLock};
 use std::alloc::{AllocError, Global};
 
+/// What the first occurrences of these dependencies have in common: their task, and the locks that are held at each and
+/// exclude their tasks. `None` for nothing.
+pub fn common_of<'a>(
+    alloc: Global,
+    book: &Book<'a>,
+    sightings: &Sightings<'a>,
+    steps: &[Step<'_>],
+) -> Result<Option<Common<'a>>, AllocError> {
+    let is_one_task = are_by_one_task(sightings, steps);
+    let mut locks = Vec::new(alloc);
+    for held in &common_locks(alloc, book, sightings, steps)? {
+        locks.push(CommonLock {
+            name: held.lock.class,
+            instance: held.lock.instance,
+            is_written: held.is_written,
+        })?;
+    }
+    if is_one_task || !locks.is_empty() {
+        Ok(Some(Common { is_one_task, locks }))
+    } else {
+        Ok(None)
+    }
+}
+
 /// Whether all of these dependencies were first seen in one trace, by one task.
-pub fn are_by_one_task(sightings: &Sightings<'_>, steps: &[Step<'_>]) -> bool {
+fn are_by_one_task(sightings: &Sightings<'_>, steps: &[Step<'_>]) -> bool {
     let Some(first) = steps.first() else {
         return false;
     };
@@ -30,7 +55,7 @@ fn task_at<'a>(sightings: &Sightings<'a>, step: &Step<'_>) -> Option<&'a [u8]> {
 /// The locks that are held at the first occurrence of each of these dependencies, in the same frame, each once, and that
 /// let one of their tasks in at a time. A lock is written if it is so at one of them, as then the tasks exclude each
 /// other. Different traces may name other locks by the same instance, so there only locks without one are the same.
-pub fn common_locks<'a>(
+fn common_locks<'a>(
     alloc: Global,
     book: &Book<'a>,
     sightings: &Sightings<'a>,

@@ -1,6 +1,6 @@
 //! Explains the refused traces and the violations of a report, one after another.
 
-use crate::common::{are_by_one_task, common_locks};
+use crate::common::common_of;
 use crate::fault::Fault;
 use crate::groups::{Member, grouped, most_shared};
 use crate::known::write_known_class;
@@ -251,14 +251,21 @@ impl<'t, 'a> Explaining<'t, 'a> {
     /// each and exclude their tasks.
     fn common(&mut self, steps: &[Step<'a>]) -> Result<(), AllocError> {
         let all = if steps.len() == 2 { "both" } else { "all" };
-        if are_by_one_task(self.telling.sightings, steps) {
+        let telling = &self.telling;
+        let Some(common) = common_of(telling.alloc, telling.book, telling.sightings, steps)? else {
+            return Ok(());
+        };
+        if common.is_one_task {
             writeln!(self.telling.text, "  {all} by one task").map_err(|_| AllocError)?;
         }
-        let telling = &self.telling;
-        let locks = common_locks(telling.alloc, telling.book, telling.sightings, steps)?;
-        for held in &locks {
+        for lock in &common.locks {
             write!(self.telling.text, "  {all} under ").map_err(|_| AllocError)?;
-            write_lock(&mut self.telling.text, held)?;
+            write_lock(
+                &mut self.telling.text,
+                lock.name,
+                lock.instance,
+                lock.is_written,
+            )?;
             self.telling.text.push(b'\n')?;
         }
         Ok(())

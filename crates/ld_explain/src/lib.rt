@@ -22,5 +22,5 @@ pub use drawing::{Drawn, dot};
 pub use explaining::explain;
 pub use fault::{Fault, faults};
 pub use ld_rows::Kind;
-pub use rows::rows_of;
+pub use rows::{FilePaths, Part, rows_of, rows_of_part};
 pub use violations::{Choice, Dependency, Ends, Step, Violation, chosen};

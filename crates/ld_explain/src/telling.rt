@@ -53,7 +53,12 @@ impl<'t, 'a> Telling<'t, 'a> {
     /// A lock that is held, and the line of its acquisition.
     pub fn hold(&mut self, number: u64, held: &Held<'_>) -> Result<(), AllocError> {
         self.text.extend_from_slice(b"    holds ")?;
-        write_lock(&mut self.text, held)?;
+        write_lock(
+            &mut self.text,
+            held.lock.class,
+            held.lock.instance,
+            held.is_written,
+        )?;
         self.text.extend_from_slice(b", ")?;
         self.line(number, held.line)
     }

@@ -254,13 +254,23 @@ pub fn is_named(class: ClassName<'_>, word: &[u8]) -> bool {
 
 /// The lines of a report, from one on.
 #[derive(Drop)]
-struct Lines<'r> {
+pub struct Lines<'r> {
     rest: &'r [u8],
 }
 
 impl<'r> Lines<'r> {
+    /// Those of a report from the first one of a violation on, if so many traces are refused.
+    pub fn of_violations(report: &'r [u8], refused: u64) -> Lines<'r> {
+        let mut lines = Lines { rest: report };
+        // The first line, and those of refused traces.
+        for _ in 0..=refused {
+            lines.next_text();
+        }
+        lines
+    }
+
     /// The next line without its end, which is empty behind the last one.
-    fn next_text(&mut self) -> &'r [u8] {
+    pub fn next_text(&mut self) -> &'r [u8] {
         match next_line(self.rest) {
             Some((line, others)) => {
                 self.rest = others;
@@ -288,11 +298,7 @@ pub fn chosen<'r, 'a>(
         AreViolations book.now (map violation_said all.items)) }
 {
     let findings = book.findings(alloc)?;
-    let mut lines = Lines { rest: report };
-    // The first line, and those of refused traces.
-    for _ in 0..=book.totals().refused {
-        lines.next_text();
-    }
+    let mut lines = Lines::of_violations(report, book.totals().refused);
     let all = chosen_of(alloc, book, &findings, &mut lines, choice);
     drop(findings);
     all

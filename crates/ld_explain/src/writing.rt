@@ -1,6 +1,5 @@
 //! Writes names and places. Each call answers `AllocError` where memory for its text was refused.
 
-use crate::readers::Held;
 use ld_escape::write_on_line;
 use ld_overview::ClassName;
 use ld_places::ShownPlaces;
@@ -18,13 +17,18 @@ pub fn write_sub(out: &mut Vec<u8>, class: ClassName<'_>) -> Result<(), AllocErr
 }
 
 /// A lock that is held: `CLASS` or `CLASS@INSTANCE`, with ` (written)` behind it if readers wait for its task.
-pub fn write_lock(out: &mut Vec<u8>, held: &Held<'_>) -> Result<(), AllocError> {
-    out.extend_from_slice(held.lock.class)?;
-    if let Some(name) = held.lock.instance {
+pub fn write_lock(
+    out: &mut Vec<u8>,
+    class: &[u8],
+    instance: Option<&[u8]>,
+    is_written: bool,
+) -> Result<(), AllocError> {
+    out.extend_from_slice(class)?;
+    if let Some(name) = instance {
         out.push(b'@')?;
         out.extend_from_slice(name)?;
     }
-    if held.is_written {
+    if is_written {
         out.extend_from_slice(b" (written)")?;
     }
     Ok(())

@@ -8,7 +8,7 @@ use crate::words::{
     KINDS, dependency_at, end_at, kind_meaning, kind_word, state_word, write_title,
 };
 use ld_escape::Form;
-use ld_rows::{Dependency, End, Group, Line, Place, Rows, Seen, Since, Use, Violation};
+use ld_rows::{Common, Dependency, End, Group, Line, Place, Rows, Seen, Since, Use, Violation};
 use ld_sources::Sources;
 use ld_trace::State;
 use std::alloc::{AllocError, Global};
@@ -113,12 +113,41 @@ impl Articles<'_, '_, '_> {
         for place in &violation.dependencies {
             self.step(*place)?;
         }
+        if let Some(common) = &violation.common {
+            self.common(common, violation.dependencies.len())?;
+        }
         for end in [violation.safe, violation.exposed] {
             if let Some(end) = end_at(self.rows, end) {
                 self.end(end)?;
             }
         }
         self.text.put("</article>\n")
+    }
+
+    /// What the first occurrences of so many dependencies have in common.
+    fn common(&mut self, common: &Common<'_>, dependencies: usize) -> Result<(), AllocError> {
+        let all = if dependencies == 2 { "both" } else { "all" };
+        if common.is_one_task {
+            self.text.put("<p>")?;
+            self.text.put(all)?;
+            self.text.put(" by one task</p>\n")?;
+        }
+        for lock in &common.locks {
+            self.text.put("<p>")?;
+            self.text.put(all)?;
+            self.text.put(" under <code>")?;
+            self.text.name(Form::Markup, lock.name)?;
+            if let Some(instance) = lock.instance {
+                self.text.put("@")?;
+                self.text.name(Form::Markup, instance)?;
+            }
+            self.text.put("</code>")?;
+            if lock.is_written {
+                self.text.put(" (written)")?;
+            }
+            self.text.put("</p>\n")?;
+        }
+        Ok(())
     }
 
     /// A dependency: once with all that was seen, and then by a link.

@@ -70,7 +70,7 @@ pub(crate) fn source_of<'f>(frame: &'f Frame, stripped: &Stripped<'_>) -> Option
 /// A line of a trace, in its file.
 pub(crate) fn traced<'l>(at: &At<'l>, stripped: &Stripped<'_>) -> Spot<'l> {
     Spot {
-        file: stripped.path(at.file.as_bytes()),
+        file: stripped.path(at.path),
         line: at.file_line,
     }
 }

@@ -2,15 +2,15 @@
 
 use crate::files::{Spot, Stripped, spot_of, traced};
 use crate::story::Lines;
-use crate::text::Text;
-use crate::words::{line_of, write_title};
+use crate::text::{Names, Text};
+use crate::words::{line_of, write_title, write_untold};
 use ld_escape::Form;
 use ld_rows::{Refused, Rows, Violation};
 use std::alloc::{AllocError, Global};
 
 /// How a message is written: `%0A` is the end of a line in it.
 const MESSAGE: Lines = Lines {
-    form: Form::Message,
+    names: Names::Escaped(Form::Message),
     between: "%0A",
 };
 
@@ -85,10 +85,11 @@ fn write_spot(text: &mut Text, spot: &Spot<'_>) -> Result<(), AllocError> {
 /// How many traces and violations there are.
 fn write_notice(text: &mut Text, rows: &Rows<'_>) -> Result<(), AllocError> {
     text.put("::notice title=lock order::violations ")?;
-    text.number(rows.violations.len() as u64)?;
+    text.number(rows.count)?;
     text.put(", traces ")?;
     text.number(rows.totals.traces)?;
     text.put(", of which refused ")?;
     text.number(rows.totals.refused)?;
+    write_untold(text, rows, ", ", "")?;
     text.put("\n")
 }

@@ -4,7 +4,8 @@ use crate::articles::write_violations;
 use crate::story::Lines;
 use crate::style::{SCRIPT, STYLE};
 use crate::tables::{write_classes, write_graph, write_refused};
-use crate::text::Text;
+use crate::text::{Names, Text};
+use crate::words::write_untold;
 use ld_escape::Form;
 use ld_rows::Rows;
 use ld_sources::Sources;
@@ -12,7 +13,7 @@ use std::alloc::{AllocError, Global};
 
 /// How a line of a trace is written.
 pub(crate) const LINES: Lines = Lines {
-    form: Form::Markup,
+    names: Names::Escaped(Form::Markup),
     between: "<br>",
 };
 
@@ -68,8 +69,9 @@ fn write_verdict(text: &mut Text, rows: &Rows<'_>) -> Result<(), AllocError> {
     }
     if !rows.refused.is_empty() {
         text.put(". Refused traces: ")?;
-        text.number(rows.refused.len() as u64)?;
+        text.number(rows.totals.refused)?;
     }
+    write_untold(text, rows, "; ", "")?;
     text.put(".</p>\n")
 }
 
@@ -110,7 +112,7 @@ fn write_counts(text: &mut Text, rows: &Rows<'_>) -> Result<(), AllocError> {
     write_count(
         text,
         "violations",
-        rows.violations.len() as u64,
+        rows.count,
         "Orders and uses of locks that can end in a deadlock.",
     )?;
     text.put("</dl>\n")

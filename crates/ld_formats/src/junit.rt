@@ -3,15 +3,15 @@
 use crate::files::{Spot, Stripped, spot_of};
 use crate::ktap::write_others;
 use crate::story::Lines;
-use crate::text::Text;
-use crate::words::{first_of, kind_word, line_of, write_title};
+use crate::text::{Names, Text};
+use crate::words::{first_of, kind_word, line_of, untold, write_title, write_untold};
 use ld_escape::Form;
 use ld_rows::{Group, Rows, Violation};
 use std::alloc::{AllocError, Global};
 
 /// How lines of a message are written.
 const MESSAGE: Lines = Lines {
-    form: Form::Markup,
+    names: Names::Escaped(Form::Markup),
     between: "\n",
 };
 
@@ -39,8 +39,19 @@ pub(crate) fn junit_text(
     for group in &rows.groups {
         write_group(&mut text, rows, group, stripped)?;
     }
+    write_left(&mut text, rows)?;
     text.put("</testsuite>\n</testsuites>\n")?;
     Ok(text.into_bytes())
+}
+
+/// What isn't told, if it is anything.
+fn write_left(text: &mut Text, rows: &Rows<'_>) -> Result<(), AllocError> {
+    if untold(rows).iter().all(|(_, count)| *count == 0) {
+        return Ok(());
+    }
+    text.put("<system-out>")?;
+    write_untold(text, rows, "", "\n")?;
+    text.put("</system-out>\n")
 }
 
 /// How many cases there are, and how many of them fail.
@@ -62,7 +73,7 @@ fn write_traces(text: &mut Text, rows: &Rows<'_>) -> Result<(), AllocError> {
         return text.put("/>\n");
     }
     text.put("><error type=\"refused\" message=\"traces refused: ")?;
-    text.number(rows.refused.len() as u64)?;
+    text.number(rows.totals.refused)?;
     text.put("\">")?;
     for refused in &rows.refused {
         text.name(Form::Markup, refused.line.at.label)?;

@@ -1,15 +1,15 @@
 //! KTAP: a test for the traces, and one for each group of violations.
 
 use crate::story::Lines;
-use crate::text::Text;
-use crate::words::{first_of, write_title};
+use crate::text::{Names, Text};
+use crate::words::{first_of, write_title, write_untold};
 use ld_escape::Form;
 use ld_rows::{Group, Rows};
 use std::alloc::{AllocError, Global};
 
 /// How lines of diagnostics are written.
 const DIAGNOSTICS: Lines = Lines {
-    form: Form::Tap,
+    names: Names::Escaped(Form::Tap),
     between: "\n# ",
 };
 
@@ -33,6 +33,7 @@ pub(crate) fn ktap_text(alloc: Global, rows: &Rows<'_>) -> Result<Vec<u8>, Alloc
         write_group(&mut text, rows, group, number)?;
         number = number.saturating_add(1);
     }
+    write_untold(&mut text, rows, "# ", "\n")?;
     Ok(text.into_bytes())
 }
 

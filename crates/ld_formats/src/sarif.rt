@@ -2,18 +2,18 @@
 
 use crate::files::{Spot, Stripped, source_of, spot_of, traced};
 use crate::story::Lines;
-use crate::text::Text;
+use crate::text::{Names, Text};
 use crate::words::{
     KINDS, dependency_at, end_at, kind_meaning, kind_place, kind_title, kind_word, line_of,
-    state_word, write_title,
+    state_word, untold, write_title,
 };
 use ld_escape::Form;
 use ld_rows::{Class, Dependency, End, Frame, Held, Line, Place, Refused, Rows, Seen, Violation};
 use std::alloc::{AllocError, Global};
 
-/// How a message is written.
+/// How a message is written: as SARIF reads it, a brace of a name is doubled, and a bracket has a backslash before it.
 const MESSAGE: Lines = Lines {
-    form: Form::Json,
+    names: Names::Said,
     between: "\\n",
 };
 
@@ -86,22 +86,41 @@ struct Writer<'r, 'a, 'p> {
 }
 
 impl Writer<'_, '_, '_> {
-    /// Refused traces.
+    /// Refused traces, and what isn't told.
     fn notifications(&mut self) -> Result<(), AllocError> {
         for (place, refused) in self.rows.refused.iter().enumerate() {
             write_comma(&mut self.text, place as u64)?;
             self.notification(refused)?;
         }
+        let mut place = self.rows.refused.len() as u64;
+        for (what, count) in untold(self.rows) {
+            if count > 0 {
+                write_comma(&mut self.text, place)?;
+                self.note(what, count)?;
+                place = place.saturating_add(1);
+            }
+        }
         Ok(())
+    }
+
+    /// What isn't told, and how many of it there are.
+    fn note(&mut self, what: &'static str, count: u64) -> Result<(), AllocError> {
+        self.text.put(
+            "\n{\"level\":\"note\",\"descriptor\":{\"id\":\"untold\"},\"message\":{\"text\":\"",
+        )?;
+        self.text.put(what)?;
+        self.text.put(": ")?;
+        self.text.number(count)?;
+        self.text.put("\"}}")
     }
 
     fn notification(&mut self, refused: &Refused<'_>) -> Result<(), AllocError> {
         self.text.put(
             "\n{\"level\":\"warning\",\"descriptor\":{\"id\":\"refused\"},\"message\":{\"text\":\"",
         )?;
-        self.text.name(Form::Json, refused.line.at.label)?;
+        MESSAGE.name(&mut self.text, refused.line.at.label)?;
         self.text.put(" is refused: ")?;
-        self.text.name(Form::Json, refused.fault.as_bytes())?;
+        MESSAGE.name(&mut self.text, refused.fault.as_bytes())?;
         self.text.put("\"},\"locations\":[{")?;
         let spot = traced(&refused.line.at, &self.stripped);
         self.spot(&spot)?;
@@ -124,7 +143,7 @@ impl Writer<'_, '_, '_> {
         self.text.number(kind_place(violation.kind))?;
         self.text
             .put(",\"level\":\"error\",\"message\":{\"text\":\"")?;
-        self.text.name(Form::Json, violation.text)?;
+        MESSAGE.name(&mut self.text, violation.text)?;
         self.text.put("\\n")?;
         MESSAGE.story(&mut self.text, self.rows, violation)?;
         self.text.put("\"},\"locations\":[{")?;
@@ -164,9 +183,9 @@ impl Writer<'_, '_, '_> {
     /// The flow of a dependency: the locks that its task holds, and the one that it acquires.
     fn step(&mut self, dependency: &Dependency<'_>) -> Result<(), AllocError> {
         self.text.put("\n{\"message\":{\"text\":\"")?;
-        self.text.class(Form::Json, dependency.from)?;
+        MESSAGE.class(&mut self.text, dependency.from)?;
         self.text.put(" -> ")?;
-        self.text.class(Form::Json, dependency.to)?;
+        MESSAGE.class(&mut self.text, dependency.to)?;
         self.text.put("\"},\"locations\":[")?;
         self.holds(&dependency.seen.held)?;
         self.acquired(&dependency.seen, dependency.to)
@@ -194,7 +213,7 @@ impl Writer<'_, '_, '_> {
         for held in held {
             self.text
                 .put("{\"location\":{\"message\":{\"text\":\"holds ")?;
-            self.text.class(Form::Json, held.class)?;
+            MESSAGE.class(&mut self.text, held.class)?;
             self.text.put("\"},")?;
             self.place(&held.line)?;
             self.text.put(",")?;
@@ -205,7 +224,7 @@ impl Writer<'_, '_, '_> {
     /// The last line of a flow, and its end.
     fn acquired(&mut self, seen: &Seen<'_>, class: Class<'_>) -> Result<(), AllocError> {
         self.text.put("{\"location\":{\"message\":{\"text\":\"")?;
-        self.text.class(Form::Json, class)?;
+        MESSAGE.class(&mut self.text, class)?;
         self.text.put(": ")?;
         MESSAGE.by(&mut self.text, seen)?;
         MESSAGE.at(&mut self.text, &seen.line.at)?;

@@ -1,10 +1,10 @@
 //! What stands behind a violation, as lines of a message.
 
-use crate::text::Text;
+use crate::text::{Names, Text};
 use crate::words::{dependency_at, end_at, kind_meaning, state_word};
-use ld_escape::Form;
 use ld_rows::{
-    At, Dependency, End, Frame, Handler, Held, Line, Place, Rows, Seen, Since, Use, Violation,
+    At, Class, Dependency, End, Frame, Handler, Held, Line, Place, Rows, Seen, Since, Use,
+    Violation,
 };
 use ld_trace::State;
 use std::alloc::AllocError;
@@ -12,12 +12,26 @@ use std::alloc::AllocError;
 /// How lines of a message are written in a format.
 #[derive(Clone, Copy)]
 pub(crate) struct Lines {
-    pub(crate) form: Form,
+    pub(crate) names: Names,
     /// What stands between two lines.
     pub(crate) between: &'static str,
 }
 
 impl Lines {
+    /// A name.
+    pub(crate) fn name(&self, text: &mut Text, name: &[u8]) -> Result<(), AllocError> {
+        match self.names {
+            Names::Escaped(form) => text.name(form, name),
+            Names::Said => text.message(name),
+        }
+    }
+
+    /// A class: `name`, or `name/N` if it is a subclass.
+    pub(crate) fn class(&self, text: &mut Text, class: Class<'_>) -> Result<(), AllocError> {
+        self.name(text, class.name)?;
+        text.subclass(class)
+    }
+
     /// What a violation means, and each of its steps and ends where it was first seen.
     pub(crate) fn story(
         &self,
@@ -42,9 +56,9 @@ impl Lines {
     /// A dependency, with the locks that its task held.
     fn dependency(&self, text: &mut Text, dependency: &Dependency<'_>) -> Result<(), AllocError> {
         text.put(self.between)?;
-        text.class(self.form, dependency.from)?;
+        self.class(text, dependency.from)?;
         text.put(" -> ")?;
-        text.class(self.form, dependency.to)?;
+        self.class(text, dependency.to)?;
         text.put(": ")?;
         self.seen(text, &dependency.seen)
     }
@@ -70,10 +84,10 @@ impl Lines {
             Use::Safe => {
                 text.put(state_word(end.state))?;
                 text.put(" handlers acquire ")?;
-                text.class(self.form, end.class)
+                self.class(text, end.class)
             }
             Use::Exposed => {
-                text.class(self.form, end.class)?;
+                self.class(text, end.class)?;
                 text.put(" is held where ")?;
                 text.put(state_word(end.state))?;
                 text.put(" handlers can interrupt")
@@ -93,9 +107,9 @@ impl Lines {
 
     /// The trace and the task.
     pub(crate) fn by(&self, text: &mut Text, seen: &Seen<'_>) -> Result<(), AllocError> {
-        text.name(self.form, seen.line.at.label)?;
+        self.name(text, seen.line.at.label)?;
         text.put(", task ")?;
-        text.name(self.form, seen.task)?;
+        self.name(text, seen.task)?;
         text.put(", ")
     }
 
@@ -103,7 +117,7 @@ impl Lines {
     fn held(&self, text: &mut Text, held: &Held<'_>) -> Result<(), AllocError> {
         text.put(self.between)?;
         text.put("  holds ")?;
-        text.class(self.form, held.class)?;
+        self.class(text, held.class)?;
         text.put(", ")?;
         self.line(text, &held.line)
     }
@@ -141,7 +155,7 @@ impl Lines {
     pub(crate) fn line(&self, text: &mut Text, line: &Line<'_>) -> Result<(), AllocError> {
         self.at(text, &line.at)?;
         text.put(": ")?;
-        text.name(self.form, line.text)?;
+        self.name(text, line.text)?;
         match &line.place {
             Some(Place::Called(frames)) => self.frames(text, frames),
             Some(Place::Recorded(number)) => {
@@ -155,7 +169,7 @@ impl Lines {
 
     /// Where a line stands.
     pub(crate) fn at(&self, text: &mut Text, at: &At<'_>) -> Result<(), AllocError> {
-        text.name(self.form, at.file.as_bytes())?;
+        self.name(text, at.path)?;
         text.put(":")?;
         text.number(at.file_line)
     }
@@ -172,9 +186,9 @@ impl Lines {
 
     /// A call: `FUNCTION at FILE:LINE`.
     pub(crate) fn frame(&self, text: &mut Text, frame: &Frame) -> Result<(), AllocError> {
-        text.name(self.form, &frame.function)?;
+        self.name(text, &frame.function)?;
         text.put(" at ")?;
-        text.name(self.form, &frame.file)?;
+        self.name(text, &frame.file)?;
         if let Some(line) = frame.line {
             text.put(":")?;
             text.number(line)?;

@@ -107,6 +107,39 @@ fn second<'a>(violation: &Violation<'a>) -> Option<Class<'a>> {
     class.copied()
 }
 
+/// What isn't told of a report, and how many of it there are.
+pub(crate) fn untold(rows: &Rows<'_>) -> [(&'static str, u64); 3] {
+    let more = rows.count.saturating_sub(rows.violations.len() as u64);
+    let refused = rows
+        .totals
+        .refused
+        .saturating_sub(rows.refused.len() as u64);
+    [
+        ("known violations left out", rows.known),
+        ("violations not shown", more),
+        ("refused traces not shown", refused),
+    ]
+}
+
+/// Writes what isn't told of a report and is some, each behind and before these words: `violations not shown: 17`.
+pub(crate) fn write_untold(
+    text: &mut Text,
+    rows: &Rows<'_>,
+    before: &'static str,
+    behind: &'static str,
+) -> Result<(), AllocError> {
+    for (what, count) in untold(rows) {
+        if count > 0 {
+            text.put(before)?;
+            text.put(what)?;
+            text.put(": ")?;
+            text.number(count)?;
+            text.put(behind)?;
+        }
+    }
+    Ok(())
+}
+
 /// The dependency of a place.
 pub(crate) fn dependency_at<'r, 'a>(
     rows: &'r Rows<'a>,

@@ -12,6 +12,8 @@ use Rattle.ld_rows.specs.declared.lines.Frame.{Frame}
 use Rattle.ld_rows.specs.declared.lines.Line.{Line}
 use Rattle.ld_rows.specs.declared.lines.Place.{Place}
 use Rattle.ld_rows.specs.declared.lines.Place.TheVariants as places
+use Rattle.ld_rows.specs.declared.violations.Common.{Common}
+use Rattle.ld_rows.specs.declared.violations.CommonLock.{CommonLock}
 use Rattle.ld_rows.specs.declared.violations.Dependency.{Dependency}
 use Rattle.ld_rows.specs.declared.violations.End.{End}
 use Rattle.ld_rows.specs.declared.violations.Group.{Group}
@@ -261,6 +263,22 @@ numbers_of number violation =
     ++ codes ",\"group\":" ++ decimal violation.group
     ++ codes ",\"dependencies\":" ++ listed decimal violation.dependencies.items
 
+-- a lock that is held at each first occurrence of an inversion's dependencies
+unfoldable pub common_lock_json : CommonLock → List ℕ
+common_lock_json lock =
+    codes "{\"name\":" ++ quoted lock.name.now
+    ++ instance_member lock.instance
+    ++ codes ",\"written\":" ++ truth lock.is_written
+    ++ codes "}"
+
+-- what these first occurrences have in common, if it is anything
+abbrev pub common_member : Option Common → List ℕ
+common_member None = []
+common_member (Some common) =
+    codes ",\"common\":{\"one_task\":" ++ truth common.is_one_task
+    ++ codes ",\"locks\":" ++ listed common_lock_json common.locks.items
+    ++ codes "}"
+
 -- the numbers of its ends, if it has some, and its line in the report
 unfoldable pub rest_of : Violation → List ℕ
 rest_of violation =
@@ -276,6 +294,7 @@ violation_line ends number violation =
     ++ state_member violation.state
     ++ kind_members ends violation violation.kind
     ++ numbers_of number violation
+    ++ common_member violation.common
     ++ rest_of violation
 
 -- the last line: how many violations there are
@@ -291,4 +310,4 @@ json_text rows =
     ++ numbered end_line 0 rows.ends.items
     ++ numbered (violation_line rows.ends.items) 0 rows.violations.items
     ++ numbered group_line 0 rows.groups.items
-    ++ end_of_lines (length rows.violations.items)
+    ++ end_of_lines rows.count

@@ -1,6 +1,7 @@
 //! Rows of a report as JSON, one object a line.
 #![tactic(auto)]
 
+mod common;
 mod ends;
 mod places;
 mod quoted;

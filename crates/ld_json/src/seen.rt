@@ -98,7 +98,7 @@ fn write_held(
 }
 
 /// Writes which lock of a class it is, if that is known.
-fn write_instance(
+pub fn write_instance(
     alloc: Global,
     out: &mut Vec<u8>,
     instance: Option<&[u8]>,
@@ -111,7 +111,8 @@ fn write_instance(
     }
 }
 
-fn write_truth(out: &mut Vec<u8>, words: &str, is_so: bool) -> Result<(), AllocError>
+/// Writes whether something is so, behind these words.
+pub fn write_truth(out: &mut Vec<u8>, words: &str, is_so: bool) -> Result<(), AllocError>
     ensures { OnOk result (out.new.items ≡ out.old.items ++ words.now ++ truth is_so) }
 {
     write_words(out, words)?;

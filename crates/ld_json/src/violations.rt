@@ -6,6 +6,7 @@ ghost use Rattle.ld_json.specs.Json.{class_json, end_at, end_members, first_memb
 ghost use Rattle.ld_json.specs.Json.{kind_name, listed, number_member, numbers_of, rest_of};
 ghost use Rattle.ld_json.specs.Json.{state_member, use_member, violation_line};
 
+use crate::common::write_common;
 use crate::ends::write_numbers;
 use crate::places::{write_at, write_class};
 use crate::quoted::{write_number, write_text, write_words};
@@ -30,6 +31,7 @@ pub fn write_violation(
     write_state_member(out, violation.state)?;
     write_members(alloc, out, ends, violation)?;
     write_numbers_of(alloc, out, number, violation)?;
+    write_common(alloc, out, &violation.common)?;
     write_rest(alloc, out, violation)?;
     Ok(())
 }

@@ -5,5 +5,6 @@
 mod places;
 mod shown_places;
 
+pub use ld_origin::{Origin, origin_of};
 pub use places::{Place, Places};
 pub use shown_places::ShownPlaces;

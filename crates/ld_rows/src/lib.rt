@@ -12,6 +12,6 @@ mod violations;
 pub use classes::{Class, ClassRow, EdgeRow, Origin, Taken};
 pub use lines::{At, Frame, Line, Place};
 pub use violations::{
-    Dependency, End, Group, Handler, Held, Kind, Refused, Rows, Seen, Shared, Since, Totals, Use,
-    Violation,
+    Common, CommonLock, Dependency, End, Group, Handler, Held, Kind, Refused, Rows, Seen, Shared,
+    Since, Totals, Use, Violation,
 };

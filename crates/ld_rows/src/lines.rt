@@ -7,8 +7,11 @@ pub struct At<'a> {
     pub label: &'a [u8],
     /// The line, counted from 1 over all files as one stream.
     pub line: u64,
-    /// The name of its file as it was given; `-` for standard input.
+    /// The name of its file as it was given, `-` for standard input; or of the file that its trace says it comes from, as
+    /// the trace spells it.
     pub file: &'a str,
+    /// The path of this file, which other programs open. It may be any bytes, not UTF-8 either.
+    pub path: &'a [u8],
     /// The line, counted from 1 in its file.
     pub file_line: u64,
 }

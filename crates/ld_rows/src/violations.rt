@@ -15,6 +15,10 @@ pub struct Rows<'a> {
     pub refused: Vec<Refused<'a>>,
     /// The violations, in the order of the report.
     pub violations: Vec<Violation<'a>>,
+    /// How many violations there are, with those that aren't among these rows since fewer were asked for.
+    pub count: u64,
+    /// How many violations are left out since they are known. They aren't counted.
+    pub known: u64,
     /// The violations by what they share, in the order of the first one of each group.
     pub groups: Vec<Group>,
     /// The dependencies of the violations' cycles and paths, each once, in the order in which they are first needed.
@@ -81,6 +85,29 @@ pub struct Violation<'a> {
     pub exposed: Option<usize>,
     /// The place of its group in [`Rows::groups`].
     pub group: usize,
+    /// What the first occurrences of an inversion's dependencies have in common; `None` for nothing.
+    pub common: Option<Common<'a>>,
+}
+
+/// What the first occurrences of several dependencies have in common: one thing at least.
+#[derive(Drop)]
+pub struct Common<'a> {
+    /// Whether they are in one trace, and by one task.
+    pub is_one_task: bool,
+    /// The locks that are held at each of them, in the same handler or outside any, and that let one of their tasks in at
+    /// a time.
+    pub locks: Vec<CommonLock<'a>>,
+}
+
+/// A lock that is held at several lines.
+#[derive(Clone, Copy, Debug, PartialEq, Eq)]
+pub struct CommonLock<'a> {
+    /// The name of its class, L for L!read.
+    pub name: &'a [u8],
+    /// Which lock of the class, if the stream says so.
+    pub instance: Option<&'a [u8]>,
+    /// Whether its recursive readers wait for one of the tasks.
+    pub is_written: bool,
 }
 
 /// Violations that share dependencies: two are in one group if they have one in common, or if a row of such others

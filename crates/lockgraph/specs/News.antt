@@ -29,6 +29,12 @@ pub record IsNewsWith (files : List PlainFile) (in_order sources : List PlainSou
   pub few : length files ≤ 1 → list_any has_origin in_order ≡ false → remarks ≡ []
   pub verdict_is : verdict ≡ verdict_of_new (count_new report known) (refused_count sources)
 
+-- The verdict is what the violations of these sources come to, of which some are new.
+pub record ComesToNew (sources : List PlainSource) (known : List ℕ) (verdict : Verdict) : Type 0 where
+  pub report : List ℕ
+  pub is : IsReport sources report
+  pub verdict_is : verdict ≡ verdict_of_new (count_new report known) (refused_count sources)
+
 -- the same of the sources in order
 abbrev pub IsNewsOf : List PlainFile → List PlainSource → (known text : List ℕ) → Verdict → Type 0
 IsNewsOf files sources known text verdict = IsNewsWith files sources sources known text verdict

@@ -87,7 +87,7 @@ pub fn answer_new<'a, R: Files + io::Input + Print + AllocGlobal + Threads + Wai
 }
 
 /// Why it isn't told what is new beside the known text of this name.
-fn fault_of_news<'a>(known: &'a str, fault: NewsFault) -> Fault<'a>
+pub(crate) fn fault_of_news<'a>(known: &'a str, fault: NewsFault) -> Fault<'a>
     ensures { result ≡ fault_of_news known.entry fault }
 {
     match fault {
@@ -232,7 +232,7 @@ fn news_in(
 }
 
 /// What it comes to that so many violations are new and so many traces are refused.
-fn verdict_of_new(count: u64, refused: u64) -> Verdict
+pub(crate) fn verdict_of_new(count: u64, refused: u64) -> Verdict
     ensures { result ≡ verdict_of_new count refused }
 {
     if count > 0 {

@@ -1,15 +1,19 @@
 //! What `json` and the formats of other programs have in common: rows of some traces, and a text of them.
-ghost use Rattle.std.specs.Prelude.{◌≡◌, ◌≤◌, Err, IfOk, IfSome};
+ghost use Rattle.std.specs.Prelude.{◌≡◌, ◌≢◌, ◌≤◌, Err, IfOk, IfSome};
 ghost use Rattle.ld_trace.specs.Sources.{sources, stream_fault};
 ghost use Rattle.ld_check.specs.OfReport.Verdict.{VerdictIs};
 ghost use Rattle.ld_json.specs.Json.{json_text};
 ghost use Rattle.ld_files.specs.declared.fault.Fault.TheVariants.{Together};
+ghost use Rattle.ld_trace.specs.declared.source.StreamFault.{StreamFault};
 ghost use Rattle.lockgraph.specs.declared.rows.Form.TheVariants.{Json};
+ghost use Rattle.lockgraph.specs.News.{ComesToNew};
 
+use crate::news::{NewsFault, fault_of_news, verdict_of_new};
+use ld_baseline::new_report;
 use ld_check::{Checked, MOST_WORKERS, NoGate, Verdict, check, report_in, verdict_of};
 use ld_commands::{FormatWords, JsonWords, Mapped};
-use ld_explain::rows_of;
-use ld_files::{Fault, Told, maps_in, maps_of, read_maps, read_streams, write_told};
+use ld_explain::{FilePaths, Part, rows_of, rows_of_part};
+use ld_files::{Fault, Told, maps_in, maps_of, read_known, read_maps, read_streams, write_told};
 use ld_formats::{Format, format_text};
 use ld_io::Std;
 use ld_json::json_text;
@@ -39,6 +43,21 @@ impl Form<'_> {
     }
 }
 
+/// How a report is told.
+#[derive(Clone, Copy)]
+struct Way<'f> {
+    form: Form<'f>,
+    /// How many violations are told at most; 0 for all.
+    most: u64,
+}
+
+/// A text of known violations, and the name of its file.
+#[derive(Drop)]
+struct Known<'a> {
+    name: &'a str,
+    text: Vec<u8>,
+}
+
 /// Writes the report of the named files as one JSON object a line. May wait.
 ///
 /// # Errors
@@ -48,20 +67,36 @@ pub fn answer_json<'a, R: Files + io::Input + Print + AllocGlobal + Threads + Wa
     rt: &R,
     words: &JsonWords<'a>,
 ) -> Result<Verdict, Fault<'a>> {
-    answer_rows(rt, &words.mapped, Form::Json)
+    let way = Way {
+        form: Form::Json,
+        most: words.most,
+    };
+    answer_rows(rt, &words.mapped, None, way)
 }
 
 /// Writes the report of the named files for other programs. May wait.
 ///
 /// # Errors
 ///
-/// `Open` for the first folder of sources that isn't there, and those of `answer_rows`.
+/// `Open` for the first folder of sources that isn't there, and those of `read_known` and of `answer_rows`.
 pub fn answer_format<'a, R: Files + io::Input + Print + AllocGlobal + Threads + Wait + Sync>(
     rt: &R,
     words: &FormatWords<'a>,
 ) -> Result<Verdict, Fault<'a>> {
     let folders = folders_of(rt, &words.folders)?;
-    answer_rows(rt, &words.mapped, Form::Format(&words.format, &folders))
+    let way = Way {
+        form: Form::Format(&words.format, &folders),
+        most: words.most,
+    };
+    // A mistake in it is told before the traces are read.
+    let known = match words.known {
+        Some(name) => Some(Known {
+            name,
+            text: read_known(rt, name)?,
+        }),
+        None => None,
+    };
+    answer_rows(rt, &words.mapped, known, way)
 }
 
 /// The folders of these names.
@@ -85,15 +120,16 @@ fn keep<'a>(folders: &mut Vec<Folder<'a>>, folder: Folder<'a>) -> Result<(), All
     Ok(())
 }
 
-/// Writes the report of the named files in a form. May wait.
+/// Writes the report of the named files, without what is known. May wait.
 ///
 /// # Errors
 ///
-/// Those of `read_maps`, `maps_in`, `read_streams`, `rows_told` and `write_told`.
+/// Those of `read_maps`, `maps_in`, `read_streams`, `rows_told`, `news_told` and `write_told`.
 fn answer_rows<'a, R: Files + io::Input + Print + AllocGlobal + Threads + Wait + Sync>(
     rt: &R,
     mapped: &Mapped<'a>,
-    form: Form<'_>,
+    known: Option<Known<'a>>,
+    way: Way<'_>,
 ) -> Result<Verdict, Fault<'a>> {
     let files = &mapped.given.files;
     let texts = read_maps(rt, &mapped.maps, files)?;
@@ -101,20 +137,21 @@ fn answer_rows<'a, R: Files + io::Input + Print + AllocGlobal + Threads + Wait +
     let maps = maps_in(rt.alloc(), &texts)?;
     let streams = read_streams(rt, files)?;
     let maps = maps_of(rt.alloc(), &texts, maps, files, &streams)?;
-    let told = rows_told(
-        rt,
-        rt.alloc(),
-        &streams.bytes,
-        &streams.places,
-        &maps,
-        form,
-        mapped.given.workers,
-    )?;
+    let alloc = rt.alloc();
+    let (bytes, places) = (&streams.bytes, &streams.places);
+    let workers = mapped.given.workers;
+    let told = match &known {
+        Some(known) => match news_told(rt, alloc, bytes, places, &known.text, &maps, way, workers) {
+            Ok(told) => told,
+            Err(fault) => return Err(fault_of_news(known.name, fault)),
+        },
+        None => rows_told(rt, alloc, bytes, places, &maps, way, workers)?,
+    };
     let mut output = Std::new(io::writer(rt));
     write_told(&mut output, &told)
 }
 
-/// The report of these streams in a form, whose traces that many workers read at once. May wait.
+/// The report of these streams, whose traces that many workers read at once. May wait.
 ///
 /// # Errors
 ///
@@ -126,7 +163,7 @@ fn rows_told<'a, R: Files + Threads + Wait + Sync>(
     bytes: &[u8],
     places: &Places<'_>,
     maps: &Maps<'_>,
-    form: Form<'_>,
+    way: Way<'_>,
     workers: usize,
 ) -> Result<Told, Fault<'a>>
     requires { (1 ≤ workers) × (workers ≤ MOST_WORKERS) }
@@ -134,36 +171,116 @@ fn rows_told<'a, R: Files + Threads + Wait + Sync>(
     ensures stream { IfSome (stream_fault bytes.now) (λ fault. result ≡ Err (Together fault)) }
 {
     let checked = check(rt, alloc, bytes, workers, &NoGate)?;
-    let told = rows_told_in(rt, alloc, &checked, places, maps, form);
+    let told = rows_told_in(rt, alloc, &checked, places, maps, way);
     drop(checked);
     told
 }
 
-/// The report of the traces that a book lists, in a form.
+/// The report of the traces that a book lists.
 fn rows_told_in<'a, R: Files>(
     rt: &R,
     alloc: Global,
     checked: &Checked<'_>,
     places: &Places<'_>,
     maps: &Maps<'_>,
-    form: Form<'_>,
+    way: Way<'_>,
 ) -> Result<Told, Fault<'a>>
     ensures verdict { IfOk result (λ told. VerdictIs checked.now.book told.verdict) }
 {
     let report = report_in(alloc, &checked.book)?;
-    // Lent again, since the report lives for a shorter time.
-    let text = text_in(rt, alloc, &*checked, &report, &*places, maps, form)?;
+    let text = text_in(rt, alloc, checked, &report, None, places, maps, way)?;
     let verdict = verdict_of(&checked.book);
     Ok(Told { text, verdict })
 }
 
-/// The text on these traces, of which this is the report.
-fn text_in<'s, R: Files>(
+/// What is new in these streams, whose traces that many workers read at once. May wait.
+///
+/// # Errors
+///
+/// `Stream` exactly where the stream has a fault, whatever memory there is; `UnknownLine` where the known text has a line
+/// that is none of a report; `Memory` where a growth was refused; and `Uneven` where the workers' book isn't that of the
+/// stream.
+fn news_told<R: Files + Threads + Wait + Sync>(
+    rt: &R,
+    alloc: Global,
+    bytes: &[u8],
+    places: &Places<'_>,
+    known: &[u8],
+    maps: &Maps<'_>,
+    way: Way<'_>,
+    workers: usize,
+) -> Result<Told, NewsFault>
+    requires { (1 ≤ workers) × (workers ≤ MOST_WORKERS) }
+    ensures verdict { IfOk result (λ told. ComesToNew (sources bytes.now) known.now told.verdict) }
+    ensures stream { IfSome (stream_fault bytes.now) (λ fault.
+        result ≡ Err (NewsFault.Stream fault)) }
+{
+    let checked = check(rt, alloc, bytes, workers, &NoGate)?;
+    let told = news_told_in(rt, alloc, &checked, places, known, maps, way);
+    drop(checked);
+    told
+}
+
+/// What is new in the traces that a book lists.
+fn news_told_in<R: Files>(
+    rt: &R,
+    alloc: Global,
+    checked: &Checked<'_>,
+    places: &Places<'_>,
+    known: &[u8],
+    maps: &Maps<'_>,
+    way: Way<'_>,
+) -> Result<Told, NewsFault>
+    ensures verdict { IfOk result (λ told. ComesToNew checked.now.book known.now told.verdict) }
+    ensures stream { (fault : StreamFault) → result ≢ Err (NewsFault.Stream fault) }
+{
+    let report = report_in(alloc, &checked.book)?;
+    let new = new_report(alloc, &report, known)?;
+    let text = text_in(
+        rt,
+        alloc,
+        checked,
+        &report,
+        Some(&new.text),
+        places,
+        maps,
+        way,
+    )?;
+    let verdict = verdict_of_new(new.count, checked.book.totals().refused);
+    Ok(Told { text, verdict })
+}
+
+/// The text on these traces, of which this is the report; if there is one of what is new, on that.
+fn text_in<R: Files>(
+    rt: &R,
+    alloc: Global,
+    checked: &Checked<'_>,
+    report: &[u8],
+    new: Option<&[u8]>,
+    places: &Places<'_>,
+    maps: &Maps<'_>,
+    way: Way<'_>,
+) -> Result<Vec<u8>, AllocError> {
+    let paths = FilePaths::of(alloc, &checked.sources)?;
+    let part = Part {
+        new,
+        most: way.most,
+    };
+    // Lent again, since the paths of files live for a shorter time.
+    text_by(
+        rt, alloc, &*checked, &*report, &part, &*places, &paths, maps, way.form,
+    )
+}
+
+/// The same with the paths of files, of a part of the report.
+fn text_by<'s, R: Files>(
     rt: &R,
     alloc: Global,
     checked: &'s Checked<'s>,
     report: &'s [u8],
+    part: &Part<'_>,
     places: &'s Places<'s>,
+    paths: &'s FilePaths<'s>,
     maps: &Maps<'_>,
     form: Form<'_>,
 ) -> Result<Vec<u8>, AllocError> {
@@ -172,15 +289,13 @@ fn text_in<'s, R: Files>(
         files: places,
         sources,
     };
-    let rows = rows_of(
-        alloc,
-        &checked.book,
-        report,
-        sources,
-        &shown,
-        maps,
-        form.has_all(),
-    )?;
+    let book = &checked.book;
+    let all = form.has_all();
+    let rows = if part.is_whole() {
+        rows_of(alloc, book, report, sources, &shown, paths, maps, all)?
+    } else {
+        rows_of_part(alloc, book, report, part, sources, &shown, paths, maps, all)?
+    };
     text_of_rows(rt, alloc, &rows, form)
 }
 

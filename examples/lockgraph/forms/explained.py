@@ -1,6 +1,7 @@
 """What `lockgraph explain` writes, by docs/OUTPUT.md, but for what maps say, and why traces are rejected."""
 import collections
 
+from .common import frame, in_common
 from .shown import Shown, grouped, held, lock_of_readers, waited
 
 
@@ -36,10 +37,9 @@ class Explained(Shown):
                 if not is_above:
                     seen = self.facts.dependencies[step]
                     yield self.seen(seen)
-                    yield from map(self.hold, self.frame(seen))
+                    yield from map(self.hold, frame(seen))
                     yield from self.handlers(seen)
-        if violation.kind == "inversion":
-            yield from self.common(violation)
+        yield from (f"  {it}" for it in in_common(self.case, violation))
         if violation.ends:
             yield from self.ends(violation)
 
@@ -49,43 +49,12 @@ class Explained(Shown):
     def seen(self, seen):
         return f"    {seen.line.label}, task {seen.task}, {self.line(seen.line)}"
 
-    def hold(self, told):
-        lock, is_written, line = told
+    def hold(self, one):
+        lock, is_written, line = one
         return f"    holds {lock}{' (written)' if is_written else ''}, {self.line(line)}"
 
     def handlers(self, seen):
         return (f"    in a {state} handler, {self.line(line)}" for state, line in seen.handlers)
-
-    def frame(self, seen):
-        """The locks that are held in the innermost handler, or outside any: what a writer holds is one."""
-        found = []
-        for hold in seen.holds:
-            lock = lock_of_readers(hold.class_of())
-            if hold.frame != seen.frame:
-                continue
-            if not lock:
-                found.append((hold.name, False, hold.line, hold.subclass == 0))
-                continue
-            name = lock + hold.name.removeprefix(hold.lock)
-            line = found.pop()[2] if found and found[-1] == (name, False, found[-1][2], True) else hold.line
-            found.append((name, True, line, False))
-        return [it[:3] for it in found]
-
-    def common(self, violation):
-        seen = [self.facts.dependencies[it] for it in violation.steps]
-        word = "both" if len(seen) == 2 else "all"
-        if len({(it.line.label, it.task) for it in seen}) == 1 and self.is_one_trace(seen):
-            yield f"  {word} by one task"
-        for name in dict.fromkeys(it[0] for it in self.frame(seen[0])):
-            found = [[it for it in self.frame(one) if it[0] == name] for one in seen]
-            if all(found) and ("@" not in name or self.is_one_trace(seen)):
-                is_written = any(it[1] for one in found for it in one[:1])
-                # Recursive readers of a lock are let in together.
-                if is_written or (name.partition("@")[0] + "!read", 0) not in self.facts.classes:
-                    yield f"  {word} under {name}{' (written)' if is_written else ''}"
-
-    def is_one_trace(self, seen):
-        return any(all(it.line in trace for it in seen) for trace in self.case.traces)
 
     def ends(self, violation):
         safe, exposed = violation.ends

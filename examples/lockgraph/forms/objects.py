@@ -2,6 +2,8 @@
 import collections
 import json
 
+from .common import common
+from .shown import Shown
 from .streams import TOP, must, same
 
 try:
@@ -74,11 +76,17 @@ def walked(violation):
     return [violation["class"]] if kind == "conflict" else violation["walk"]
 
 
+def lock(name, is_written):
+    """A lock that several lines hold."""
+    name, sign, instance = name.partition("@")
+    return {"name": name, **({"instance": instance} if sign else {}), "written": is_written}
+
+
 class Objects:
     """The objects of a case."""
 
     def __init__(self, case, shape):
-        self.case = case
+        self.case, self.violations = case, Shown(case).violations
         self.all = [json.loads(it) for it in case.run("json").decode("utf-8").removesuffix("\n").split("\n")]
         for told in self.all:
             if shape:
@@ -150,6 +158,9 @@ class Objects:
         classes = list(map(key, walked(told)))
         steps = [self.of["dependency"][it] for it in told["dependencies"]]
         same([(key(it["from"]), key(it["to"])) for it in steps], list(zip(classes, classes[1:])), "the steps")
+        is_one_task, locks = common(self.case, self.violations[told["number"]])
+        wanted = {"one_task": is_one_task, "locks": [lock(*it) for it in locks]} if is_one_task or locks else None
+        same(told.get("common"), wanted, "what the steps have in common")
         ends = [self.of["usage"][told[it]] for it in ("in_number", "on_number") if it in told]
         if told["kind"] in ("recursion", "inversion"):
             same((ends, told["at"]), ([], steps[0]["at"]), "where it points")

@@ -13,6 +13,9 @@ from .streams import KINDS, must, same
 
 URI = re.compile(r"(?:file:///)?(?:[A-Za-z0-9._~/-]|%[0-9A-F]{2})*")
 COMMAND = re.compile(r"::(error|warning|notice) ([^:]*)::(.*)")
+# What means something in a message of SARIF (3.11.5 and 3.11.6 of SARIF 2.1.0): `{0}` is a placeholder, `{{` a brace,
+# `[here](1)` a link, and `\[` a bracket.
+SIGN = re.compile(r"\{\{|\}\}|\\[\\\[\]]|[{}\[\]\\]")
 ODD = re.compile("[\x80-\x9f\u2028-\u202e\u2066-\u2069\ufffe\uffff]")
 TEST = re.compile(r"(not ok|ok) (\d+) (.*)")
 
@@ -66,6 +69,13 @@ def pointed_at(case, violation, prefix):
     return (file.removeprefix(f"{prefix}/") if prefix else file), number
 
 
+def read(message):
+    """What a message of SARIF shows. No part of one may be a placeholder or a link."""
+    text = message["text"]
+    must(all(len(it) == 2 for it in SIGN.findall(text)), f"a placeholder or a link in {text!r}")
+    return SIGN.sub(lambda it: it[0][1], text)
+
+
 def sarif(case, prefix=""):
     log = json.loads(case.run("sarif", "--strip", prefix).decode("utf-8"))
     same(log["version"], "2.1.0", "the version")
@@ -73,7 +83,7 @@ def sarif(case, prefix=""):
     driver = run["tool"]["driver"]
     must(driver["name"] and driver["version"], "the tool has a name and a version")
     same([it["id"] for it in driver["rules"]], list(KINDS), "the rules")
-    same([it["message"]["text"].split("\n")[0] for it in run["results"]], case.violations, "the results")
+    same([read(it["message"]).split("\n")[0] for it in run["results"]], case.violations, "the results")
     for result, violation in zip(run["results"], case.violations):
         same(result["ruleId"], driver["rules"][result["ruleIndex"]]["id"], "a rule")
         same((result["ruleId"], result["level"]), (violation.split(" ")[0], "error"), "a rule")
@@ -84,7 +94,7 @@ def sarif(case, prefix=""):
         (flow,) = result["codeFlows"]
         must(flow["threadFlows"], "a result has a step or an end")
         for thread in flow["threadFlows"]:
-            must(thread["locations"] and thread["message"]["text"], "a flow has a location")
+            must(thread["locations"] and read(thread["message"]), "a flow has a location")
             for step in thread["locations"]:
                 physical(step["location"], prefix)
                 for frame in step.get("stack", {}).get("frames", ()):
@@ -98,7 +108,7 @@ def sarif(case, prefix=""):
     same(len(notes), len(case.refused), "how many notifications there are")
     for note, refused in zip(notes, case.refused):
         line = faulty(case, refused)
-        must(note["message"]["text"] == f"{line.label} is refused: {refused.split(' ')[-1]}", "a notification")
+        must(read(note["message"]) == f"{line.label} is refused: {refused.split(' ')[-1]}", "a notification")
         same(physical(note["locations"][0], prefix), (line.file, line.file_number), "where a fault is")
     return run
 
@@ -108,7 +118,7 @@ def told_by_sarif(case, results, prefix):
     stories = Stories(case)
     for result, violation in zip(results, stories.violations if stories.are_plain() else ()):
         same(result["partialFingerprints"]["lockViolation/v1"], title(violation), "a fingerprint")
-        same(result["message"]["text"].split("\n")[2:], stories.of(violation), "what a result tells")
+        same(read(result["message"]).split("\n")[2:], stories.of(violation), "what a result tells")
         # With a prefix the places of flows are those of other calls.
         if not prefix:
             flows = [flow_of(it, prefix) for it in result["codeFlows"][0]["threadFlows"]]
@@ -125,8 +135,8 @@ def flow_of(thread, prefix):
         frames = step.get("stack", {}).get("frames", ())
         names = [it["location"]["logicalLocations"][0]["name"] for it in frames]
         calls = [(name, *called(it["location"], prefix)) for name, it in zip(names, frames)]
-        steps.append((step["location"]["message"]["text"], physical(step["location"], prefix), calls))
-    return thread["message"]["text"], steps
+        steps.append((read(step["location"]["message"]), physical(step["location"], prefix), calls))
+    return read(thread["message"]), steps
 
 
 def called(location, prefix):

@@ -10,6 +10,7 @@ import subprocess
 import tempfile
 import threading
 
+from .common import in_common
 from .maps import origins
 from .others import MEANINGS, shown, title
 from .shown import USES, name_of
@@ -201,6 +202,7 @@ class Told:
             seen = self.facts.dependencies[step]
             text += pair(step) + (", above" if step in self.above else self.seen(seen, frame(seen)))
             self.above.add(step)
+        text += "".join(in_common(self.case, violation))
         if violation.ends:
             (safe, exposed), state = violation.ends, violation.state
             text += f"{state} handlers acquire {name_of(safe)}"

@@ -3,6 +3,7 @@ ghost use Rattle.std.specs.Prelude.{◌≡◌, IfOk};
 
 use crate::known::known_at;
 use crate::rows::origins::place_of;
+use crate::rows::paths::FilePaths;
 use crate::sightings::Texts;
 use ld_overview::Witness;
 use ld_places::ShownPlaces;
@@ -18,6 +19,8 @@ pub struct Placing<'t, 'a> {
     pub sources: &'t [Source<'a>],
     /// Where their lines are shown.
     pub places: &'t ShownPlaces<'a>,
+    /// The paths of the files that they say they come from.
+    pub paths: &'a FilePaths<'a>,
 }
 
 impl<'t, 'a> Placing<'t, 'a> {
@@ -32,14 +35,25 @@ impl<'t, 'a> Placing<'t, 'a> {
                 label,
                 line,
                 file: place.file,
+                path: self.path(at, place.file),
                 file_line: place.line,
             },
             None => At {
                 label,
                 line,
                 file: "",
+                path: &[],
                 file_line: line,
             },
+        }
+    }
+
+    /// The path of the file at which a line is shown.
+    fn path(&self, at: Witness, file: &'a str) -> &'a [u8] {
+        if self.places.origin(at.line).is_some() {
+            self.paths.path(file)
+        } else {
+            file.as_bytes()
         }
     }
 

@@ -71,6 +71,8 @@ fn violation_row<'a>(
         safe: ends.safe,
         exposed: ends.exposed,
         group,
+        // It is told once the lines of its dependencies were looked up.
+        common: None,
     })
 }
 
