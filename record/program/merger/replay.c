@@ -33,8 +33,7 @@ static void on_first(uint64_t address, const struct unit *first, unsigned follow
         return;
     struct class *class = following ? NULL : class_of_static(&modules, address);
     if (!class)
-        class = class_of_first(&modules, first, following, lock->frames);
-    lock->frames = NULL;
+        class = class_of_first(&modules, first, following);
     begin_lock(lock, class);
 }
 
@@ -55,7 +54,7 @@ static void on_got(enum operation operation, uint32_t task, const struct unit *f
     struct taking taking = taking_by(operation);
     end_wait(task, first->value);
     if (!lock->class)
-        begin_lock(lock, class_of_first(&modules, first, 0, NULL));
+        begin_lock(lock, class_of_first(&modules, first, 0));
     if (lock->holder == task && !taking.is_shared) {
         lock->level++;
         return;
@@ -139,7 +138,7 @@ static bool take_told(enum operation operation, const struct unit *first)
             add_place(&modules, first);
         return true;
     case RECORD_FRAMES:
-        find_lock(&locks, first->value, true)->frames = first;
+        add_frames_told(&modules, first);
         return true;
     default:
         return false;
