@@ -47,22 +47,22 @@ static _Unwind_Reason_Code step(struct _Unwind_Context *context, void *argument)
     return _URC_NO_REASON;
 }
 
-static bool was_told(const uint64_t *calls, unsigned count)
+static uint64_t sum_of(const uint64_t *calls, unsigned count)
 {
     uint64_t sum = count;
     for (unsigned call = 0; call < count; call++)
         sum = (sum ^ calls[call]) * UINT64_C(0x9e3779b97f4a7c15);
-    uint64_t *place = &told[sum >> 52];
-    bool is_there = __atomic_load_n(place, __ATOMIC_RELAXED) == sum;
-    __atomic_store_n(place, sum, __ATOMIC_RELAXED);
-    return is_there;
+    return sum;
 }
 
-/* Tells the frames of the calls that led to a lock. */
+/* Tells the frames of the calls that led to a lock. It is noted that they were told behind their record: a thread
+   that sees the note may go on, and its next record has a later number. Others tell them again. */
 void tell_frames(uint64_t lock, const uint64_t *calls, unsigned count)
 {
     struct walk walk = {.wanted = count, .innermost = calls[0]};
-    if (count == 0 || was_told(calls, count))
+    uint64_t sum = sum_of(calls, count);
+    uint64_t *place = &told[sum >> 52];
+    if (count == 0 || __atomic_load_n(place, __ATOMIC_ACQUIRE) == sum)
         return;
     _Unwind_Backtrace(step, &walk);
     if (walk.count == 0)
@@ -80,6 +80,7 @@ void tell_frames(uint64_t lock, const uint64_t *calls, unsigned count)
     memcpy(&first[2], walk.frames, frames * sizeof(struct unit));
     memcpy(&first[2 + frames], (const void *)start, length / sizeof(struct unit) * sizeof(struct unit));
     finish_record(first, RECORD_FRAMES, following, lock);
+    __atomic_store_n(place, sum, __ATOMIC_RELEASE);
 }
 
 #else
