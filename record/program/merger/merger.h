@@ -140,6 +140,7 @@ struct taking {
     bool waits; /* or might have */
     bool is_shared;
     bool is_recursive; /* the lock's readers may read it again while a writer waits */
+    bool nests;        /* its holder may take it again */
 };
 
 struct locks {

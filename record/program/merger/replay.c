@@ -40,14 +40,16 @@ static void on_first(uint64_t address, const struct unit *first, unsigned follow
 static struct taking taking_by(enum operation got)
 {
     return (struct taking){
-        .waits = got == RECORD_ACQUIRE || got == RECORD_WRITE || got == RECORD_READ || got == RECORD_SHARE,
+        .waits = got == RECORD_ACQUIRE || got == RECORD_NESTING || got == RECORD_WRITE || got == RECORD_READ ||
+                 got == RECORD_SHARE,
+        .nests = got == RECORD_NESTING || got == RECORD_TRY_NESTING,
         .is_shared = got == RECORD_READ || got == RECORD_SHARE || got == RECORD_TRY_READ,
         .is_recursive = got == RECORD_READ || got == RECORD_WRITE || got == RECORD_TRY_WRITE,
     };
 }
 
-/* A lock that someone else is seen to get was given back by a call that wasn't seen, or by the end of
-   its holder. Inner levels of a recursive mutex aren't written. */
+/* A lock that is got while someone has it was given back by a call that wasn't seen, or by the end of its holder, or
+   was made anew by an assignment. Inner levels of a recursive mutex aren't written. */
 static void on_got(enum operation operation, uint32_t task, const struct unit *first)
 {
     struct lock *lock = find_lock(&locks, first->value, true);
@@ -55,7 +57,7 @@ static void on_got(enum operation operation, uint32_t task, const struct unit *f
     end_wait(task, first->value);
     if (!lock->class)
         begin_lock(lock, class_of_first(&modules, first, 0));
-    if (lock->holder == task && !taking.is_shared) {
+    if (lock->holder == task && taking.nests) {
         lock->level++;
         return;
     }
@@ -181,6 +183,8 @@ static void step(const struct unit *first, uint32_t task)
     case RECORD_READ:
     case RECORD_SHARE:
     case RECORD_TRY_READ:
+    case RECORD_NESTING:
+    case RECORD_TRY_NESTING:
         on_got(operation, task, first);
         break;
     case RECORD_RELEASE:
