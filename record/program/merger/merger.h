@@ -161,6 +161,7 @@ struct place {
 struct wait {
     const struct unit *first; /* of the record */
     uint32_t task;
+    size_t held; /* how many locks the task held then */
 };
 
 /* What a child of a fork begins with. */
@@ -344,6 +345,7 @@ void say_misuse(void);
 /* waits.c */
 void begin_wait(uint32_t task, const struct unit *first);
 void end_wait(uint32_t task, uint64_t address);
+void end_waits_from(uint32_t task, size_t held);
 size_t waits_left(const struct wait **all);
 void forget_waits(void);
 

@@ -90,7 +90,8 @@ static void note_condition(uint32_t task, struct lock *lock, uint32_t place)
         note_misuse(MISUSE_CONDITION, lock->class, locks.all[held[count - 2].lock].class, place);
 }
 
-/* Whoever gives the lock back: it is its holder's no more. Who reads it gives back what it has of its own. */
+/* Whoever gives the lock back: it is its holder's no more. Who reads it gives back what it has of its own. A task that
+   gives back what it held when it began to wait doesn't wait any more. */
 static void on_release(enum operation operation, uint32_t task, const struct unit *first)
 {
     struct lock *lock = find_lock(&locks, first->value, operation == RECORD_RELEASE_OTHER);
@@ -107,6 +108,8 @@ static void on_release(enum operation operation, uint32_t task, const struct uni
     } else if (lock->holder) {
         write_released(lock->holder, lock, &locks);
     }
+    const struct hold *held;
+    end_waits_from(task, held_by(task, &held) + 1);
 }
 
 /* A mutex that is held can't be destroyed; other locks, and those of C11, are all the same. */
@@ -160,6 +163,7 @@ static bool take_wait(enum operation operation, const struct unit *first, uint32
         return true;
     case RECORD_END:
         end_task(task);
+        end_waits_from(task, 0);
         return true;
     default:
         return false;
