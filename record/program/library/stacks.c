@@ -55,6 +55,21 @@ static uint64_t sum_of(const uint64_t *calls, unsigned count)
     return sum;
 }
 
+/* Gives how much of the stack there is from the innermost frame on. A thread may have more than one stack: another one
+   of a signal handler, or one that a function changes to. Behind its end there may be nothing to read, so the frames
+   are followed as long as the next one isn't farther than what is kept. */
+static uint64_t length_of_stack(const struct walk *walk)
+{
+    uint64_t start = walk->frames[0].stack, end = start;
+    for (unsigned number = 1; number <= walk->count; number++) {
+        uint64_t next = number < walk->count ? walk->frames[number].stack : walk->end;
+        if (next < end || next - end > MOST_STACK_BYTES)
+            break;
+        end = next;
+    }
+    return end - start < MOST_STACK_BYTES ? end - start : MOST_STACK_BYTES;
+}
+
 /* Tells the frames of the calls that led to a lock. It is noted that they were told behind their record: a thread
    that sees the note may go on, and its next record has a later number. Others tell them again. */
 void tell_frames(uint64_t lock, const uint64_t *calls, unsigned count)
@@ -67,10 +82,7 @@ void tell_frames(uint64_t lock, const uint64_t *calls, unsigned count)
     _Unwind_Backtrace(step, &walk);
     if (walk.count == 0)
         return;
-    uint64_t start = walk.frames[0].stack;
-    uint64_t length = walk.end > start ? walk.end - start : 0;
-    if (length > MOST_STACK_BYTES)
-        length = MOST_STACK_BYTES;
+    uint64_t length = length_of_stack(&walk);
     unsigned frames = walk.count * (unsigned)(sizeof(struct told_frame) / sizeof(struct unit));
     unsigned following = 1 + frames + (unsigned)(length / sizeof(struct unit));
     struct unit *first = take_units(1 + following);
@@ -78,7 +90,7 @@ void tell_frames(uint64_t lock, const uint64_t *calls, unsigned count)
         return;
     first[1] = (struct unit){walk.count, walk.end};
     memcpy(&first[2], walk.frames, frames * sizeof(struct unit));
-    memcpy(&first[2 + frames], (const void *)start, length / sizeof(struct unit) * sizeof(struct unit));
+    memcpy(&first[2 + frames], (const void *)walk.frames[0].stack, length / sizeof(struct unit) * sizeof(struct unit));
     finish_record(first, RECORD_FRAMES, following, lock);
     __atomic_store_n(place, sum, __ATOMIC_RELEASE);
 }
