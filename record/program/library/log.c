@@ -56,11 +56,10 @@ void finish_record(struct unit *first, enum operation operation, unsigned follow
 
 static void write_module(uint64_t address)
 {
-    uint64_t range[3];
-    const char *path;
-    if (!must_tell_module(address, range, &path))
+    struct loaded module;
+    if (!must_tell_module(address, &module))
         return;
-    size_t length = strlen(path);
+    size_t length = strlen(module.path);
     size_t most = 250 * sizeof(struct unit);
     if (length > most)
         length = most;
@@ -69,9 +68,10 @@ static void write_module(uint64_t address)
     struct unit *first = take_units(2 + path_units);
     if (!first)
         return;
-    first[1] = (struct unit){range[1], range[2]};
-    memcpy(&first[2], path, length);
-    finish_record(first, RECORD_MODULE, 1 + path_units, range[0]);
+    first[1] = (struct unit){module.last, module.load};
+    memcpy(&first[2], module.path, length);
+    finish_record(first, RECORD_MODULE, 1 + path_units, module.start);
+    told_module(&module);
 }
 
 /* Writes a record on a lock with the calls that led to it. A lock of a module, which wasn't

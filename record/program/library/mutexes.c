@@ -14,13 +14,29 @@ static bool is_got(int answer)
     return answer == 0 || answer == EOWNERDEAD;
 }
 
+/* Answers whether the holder of a mutex may take it again. libc's mutexes of C11 are those of pthread. */
+static bool is_nesting(const void *mutex)
+{
+    return (((const pthread_mutex_t *)mutex)->__data.__kind & 3) == PTHREAD_MUTEX_RECURSIVE_NP;
+}
+
+static enum operation taking(const void *mutex)
+{
+    return is_nesting(mutex) ? RECORD_NESTING : RECORD_ACQUIRE;
+}
+
+static enum operation trying(const void *mutex)
+{
+    return is_nesting(mutex) ? RECORD_TRY_NESTING : RECORD_TRY;
+}
+
 WRAP_INIT(pthread_mutex_init, pthread_mutex_t, const pthread_mutexattr_t *)
 WRAP_DESTROY(pthread_mutex_destroy, pthread_mutex_t)
 
-WRAP_TRY(is_got, RECORD_TRY, pthread_mutex_trylock, pthread_mutex_t)
-WRAP_TAKE(is_got, RECORD_ACQUIRE, pthread_mutex_lock, pthread_mutex_trylock, pthread_mutex_t)
-WRAP_TIMED(is_got, RECORD_ACQUIRE, pthread_mutex_timedlock, pthread_mutex_trylock, pthread_mutex_t, true)
-WRAP_CLOCKED(is_got, RECORD_ACQUIRE, pthread_mutex_clocklock, pthread_mutex_trylock, pthread_mutex_t,
+WRAP_TRY(is_got, trying(lock), pthread_mutex_trylock, pthread_mutex_t)
+WRAP_TAKE(is_got, taking(lock), pthread_mutex_lock, pthread_mutex_trylock, pthread_mutex_t)
+WRAP_TIMED(is_got, taking(lock), pthread_mutex_timedlock, pthread_mutex_trylock, pthread_mutex_t, true)
+WRAP_CLOCKED(is_got, taking(lock), pthread_mutex_clocklock, pthread_mutex_trylock, pthread_mutex_t,
              is_clock(clock))
 
 /* A mutex says who holds it. A thread that hasn't begun to record doesn't know its own number yet. */
@@ -44,7 +60,7 @@ EXPORTED int pthread_mutex_unlock(pthread_mutex_t *mutex)
 /* A thread that is cancelled while it waits has the mutex again when its cleanup begins. */
 static void cancelled(void *mutex)
 {
-    record_got(RECORD_ACQUIRE, mutex, NULL);
+    record_got(taking(mutex), mutex, NULL);
 }
 
 /* After a wait, in whatever way it ended, the mutex is held again, unless it can't be recovered; where
@@ -54,7 +70,7 @@ static int waited(const void *mutex, int answer, const struct frame *frame)
     if (answer == EPERM || answer == EINVAL)
         record(RECORD_REFUSED, mutex);
     else if (answer != ENOTRECOVERABLE)
-        record_got(RECORD_ACQUIRE, mutex, frame);
+        record_got(taking(mutex), mutex, frame);
     return answer;
 }
 
@@ -103,11 +119,10 @@ static bool is_got_c11(int answer)
     return answer == thrd_success;
 }
 
-WRAP_TRY(is_got_c11, RECORD_TRY, mtx_trylock, mtx_t)
-WRAP_TAKE(is_got_c11, RECORD_ACQUIRE, mtx_lock, mtx_trylock, mtx_t)
-WRAP_TIMED(is_got_c11, RECORD_ACQUIRE, mtx_timedlock, mtx_trylock, mtx_t, true)
+WRAP_TRY(is_got_c11, trying(lock), mtx_trylock, mtx_t)
+WRAP_TAKE(is_got_c11, taking(lock), mtx_lock, mtx_trylock, mtx_t)
+WRAP_TIMED(is_got_c11, taking(lock), mtx_timedlock, mtx_trylock, mtx_t, true)
 
-/* libc's mutexes of C11 are those of pthread. */
 EXPORTED int mtx_unlock(mtx_t *mutex)
 {
     give_back((const pthread_mutex_t *)mutex, HERE);
@@ -120,7 +135,7 @@ EXPORTED int mtx_unlock(mtx_t *mutex)
 static int waited_c11(const void *mutex, int answer, const struct frame *frame)
 {
     if (answer == thrd_success || answer == thrd_timedout)
-        record_got(RECORD_ACQUIRE, mutex, frame);
+        record_got(taking(mutex), mutex, frame);
     else
         record(RECORD_REFUSED, mutex);
     return answer;

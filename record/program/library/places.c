@@ -60,24 +60,35 @@ bool is_in_module(uint64_t address)
     return _dl_find_object((void *)address, &object) == 0;
 }
 
-/* Gives the module of an address where it has one that wasn't told: its first and last address, where
-   it was loaded, and its path. */
-bool must_tell_module(uint64_t address, uint64_t range[3], const char **path)
+static struct told *told_place_of(const struct loaded *module)
+{
+    return &told[module->start * UINT64_C(0x9e3779b97f4a7c15) >> 54];
+}
+
+static uint64_t end_and_map_of(const struct loaded *module)
+{
+    return module->last ^ (uint64_t)module->map << 16;
+}
+
+/* Gives the module of an address where it has one that wasn't told. */
+bool must_tell_module(uint64_t address, struct loaded *module)
 {
     struct dl_find_object object;
     if (_dl_find_object((void *)address, &object) != 0)
         return false;
     const struct link_map *map = object.dlfo_link_map;
-    range[0] = (uint64_t)object.dlfo_map_start;
-    range[1] = (uint64_t)object.dlfo_map_end - 1;
-    range[2] = map->l_addr;
-    *path = map->l_name && map->l_name[0] ? map->l_name : program_path();
-    struct told *place = &told[range[0] * UINT64_C(0x9e3779b97f4a7c15) >> 54];
-    uint64_t end_and_map = range[1] ^ (uint64_t)map << 16;
-    if (__atomic_load_n(&place->start, __ATOMIC_RELAXED) == range[0] &&
-        __atomic_load_n(&place->end_and_map, __ATOMIC_RELAXED) == end_and_map)
-        return false;
-    __atomic_store_n(&place->start, range[0], __ATOMIC_RELAXED);
-    __atomic_store_n(&place->end_and_map, end_and_map, __ATOMIC_RELAXED);
-    return true;
+    *module = (struct loaded){(uint64_t)object.dlfo_map_start, (uint64_t)object.dlfo_map_end - 1, map->l_addr, map,
+                              map->l_name && map->l_name[0] ? map->l_name : program_path()};
+    const struct told *place = told_place_of(module);
+    return __atomic_load_n(&place->start, __ATOMIC_ACQUIRE) != module->start ||
+           __atomic_load_n(&place->end_and_map, __ATOMIC_ACQUIRE) != end_and_map_of(module);
+}
+
+/* Notes that a module was told. That is noted behind its record: a thread that sees the note may go on, and its next
+   record has a later number. Others tell the module again. */
+void told_module(const struct loaded *module)
+{
+    struct told *place = told_place_of(module);
+    __atomic_store_n(&place->start, module->start, __ATOMIC_RELEASE);
+    __atomic_store_n(&place->end_and_map, end_and_map_of(module), __ATOMIC_RELEASE);
 }

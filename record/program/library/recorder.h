@@ -87,6 +87,13 @@ struct self {
     struct calls calls[CALLS_KEPT];
 };
 
+/* A module: its first and last address, where it was loaded, what the loader has of it, and its path. */
+struct loaded {
+    uint64_t start, last, load;
+    const void *map;
+    const char *path;
+};
+
 extern struct life *life;
 extern __thread struct self self __attribute__((tls_model("initial-exec")));
 
@@ -133,7 +140,8 @@ void tell_place(uint64_t address, struct told_place place);
 void find_own_place(void);
 unsigned callers(uint64_t *places, unsigned most);
 bool is_in_module(uint64_t address);
-bool must_tell_module(uint64_t address, uint64_t range[3], const char **path);
+bool must_tell_module(uint64_t address, struct loaded *module);
+void told_module(const struct loaded *module);
 
 /* program.c */
 void find_program(void);

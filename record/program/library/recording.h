@@ -50,6 +50,9 @@ enum operation {
     RECORD_END,           /* the thread ends, unless more of it follows */
     RECORD_FRAMES,  /* [lock] is about to be told as taken first, by these frames: their number and the end of what
                        is known of the stack, then each `struct told_frame`, then the stack */
+    /* Of a mutex that its holder may take again: */
+    RECORD_NESTING,     /* as RECORD_ACQUIRE */
+    RECORD_TRY_NESTING, /* as RECORD_TRY */
 };
 
 /* In `head`: the operation (5 bits), the number of units that follow (8), the place (16), which is 0

@@ -47,30 +47,42 @@ static _Unwind_Reason_Code step(struct _Unwind_Context *context, void *argument)
     return _URC_NO_REASON;
 }
 
-static bool was_told(const uint64_t *calls, unsigned count)
+static uint64_t sum_of(const uint64_t *calls, unsigned count)
 {
     uint64_t sum = count;
     for (unsigned call = 0; call < count; call++)
         sum = (sum ^ calls[call]) * UINT64_C(0x9e3779b97f4a7c15);
-    uint64_t *place = &told[sum >> 52];
-    bool is_there = __atomic_load_n(place, __ATOMIC_RELAXED) == sum;
-    __atomic_store_n(place, sum, __ATOMIC_RELAXED);
-    return is_there;
+    return sum;
 }
 
-/* Tells the frames of the calls that led to a lock. */
+/* Gives how much of the stack there is from the innermost frame on. A thread may have more than one stack: another one
+   of a signal handler, or one that a function changes to. Behind its end there may be nothing to read, so the frames
+   are followed as long as the next one isn't farther than what is kept. */
+static uint64_t length_of_stack(const struct walk *walk)
+{
+    uint64_t start = walk->frames[0].stack, end = start;
+    for (unsigned number = 1; number <= walk->count; number++) {
+        uint64_t next = number < walk->count ? walk->frames[number].stack : walk->end;
+        if (next < end || next - end > MOST_STACK_BYTES)
+            break;
+        end = next;
+    }
+    return end - start < MOST_STACK_BYTES ? end - start : MOST_STACK_BYTES;
+}
+
+/* Tells the frames of the calls that led to a lock. It is noted that they were told behind their record: a thread
+   that sees the note may go on, and its next record has a later number. Others tell them again. */
 void tell_frames(uint64_t lock, const uint64_t *calls, unsigned count)
 {
     struct walk walk = {.wanted = count, .innermost = calls[0]};
-    if (count == 0 || was_told(calls, count))
+    uint64_t sum = sum_of(calls, count);
+    uint64_t *place = &told[sum >> 52];
+    if (count == 0 || __atomic_load_n(place, __ATOMIC_ACQUIRE) == sum)
         return;
     _Unwind_Backtrace(step, &walk);
     if (walk.count == 0)
         return;
-    uint64_t start = walk.frames[0].stack;
-    uint64_t length = walk.end > start ? walk.end - start : 0;
-    if (length > MOST_STACK_BYTES)
-        length = MOST_STACK_BYTES;
+    uint64_t length = length_of_stack(&walk);
     unsigned frames = walk.count * (unsigned)(sizeof(struct told_frame) / sizeof(struct unit));
     unsigned following = 1 + frames + (unsigned)(length / sizeof(struct unit));
     struct unit *first = take_units(1 + following);
@@ -78,8 +90,9 @@ void tell_frames(uint64_t lock, const uint64_t *calls, unsigned count)
         return;
     first[1] = (struct unit){walk.count, walk.end};
     memcpy(&first[2], walk.frames, frames * sizeof(struct unit));
-    memcpy(&first[2 + frames], (const void *)start, length / sizeof(struct unit) * sizeof(struct unit));
+    memcpy(&first[2 + frames], (const void *)walk.frames[0].stack, length / sizeof(struct unit) * sizeof(struct unit));
     finish_record(first, RECORD_FRAMES, following, lock);
+    __atomic_store_n(place, sum, __ATOMIC_RELEASE);
 }
 
 #else

@@ -175,12 +175,9 @@ struct class *class_of_init(const struct modules *modules, const struct unit *fi
 
 /* Gives the class of a lock that no call initialised and these calls take first; by what their frames say, if they
    were told. */
-struct class *class_of_first(const struct modules *modules, const struct unit *first, unsigned following,
-                             const struct unit *frames)
+struct class *class_of_first(const struct modules *modules, const struct unit *first, unsigned following)
 {
-    char member[1024];
-    bool is_member = name_member(modules, first, following, frames, member, sizeof member);
-    return class_of_calls(modules, "first", first, following, is_member ? member : NULL);
+    return class_of_calls(modules, "first", first, following, member_of_calls(modules, first, following));
 }
 
 /* Gives the class of a lock that stands in a module, or none where it stands in no module. */

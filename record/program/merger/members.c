@@ -8,6 +8,8 @@
 #include "dwarf.h"
 
 #define MOST_DEPTH 64
+/* The most calls of a record. */
+#define MOST_CALLS_TOLD 8
 /* How many pointers in the variables of a frame are looked at, and how deep. */
 #define MOST_POINTERS 256
 #define MOST_INNER 4
@@ -200,6 +202,7 @@ static void *slot_of(void *all, size_t room, const void *element)
 
 static struct known *known_at(uint64_t calls)
 {
+    calls = calls ? calls : 1;
     known = grown_table(known, known_count, &known_room, sizeof *known, slot_of);
     struct known *slot = slot_of(known, known_room, &(struct known){.calls = calls});
     known_count += slot->calls == 0;
@@ -207,25 +210,28 @@ static struct known *known_at(uint64_t calls)
     return slot;
 }
 
-/* Names the member that a lock is which these calls take first, where that is known: by their frames, or by those of
-   the same calls before. */
-bool name_member(const struct modules *modules, const struct unit *first, unsigned following,
-                 const struct unit *frames, char *name, size_t size)
+/* Takes what the frames of the calls that are about to take a lock first say of it. Other locks which these calls take
+   first are known by that, also if this one had its class before. */
+void add_frames_told(const struct modules *modules, const struct unit *first)
 {
-    uint64_t calls = sum_of_calls(modules, (const uint64_t *)&first[1], 2 * following);
-    struct known *slot = known_at(calls ? calls : 1);
-    if (frames) {
-        struct search search = {.lock = first->value};
-        const struct member *member = look_at_frames(&search, modules, frames);
-        if (member) {
-            char type[1024];
-            short_function(type, sizeof type, member->type);
-            snprintf(name, size, "%s::%s", type, member->name);
-            free(slot->name);
-            slot->name = must(strdup(name));
-        }
-    }
-    if (slot->name)
-        snprintf(name, size, "%s", slot->name);
-    return slot->name != NULL;
+    const struct told_frame *frames = (const struct told_frame *)&first[2];
+    uint64_t calls[MOST_CALLS_TOLD] = {0};
+    struct search search = {.lock = first->value};
+    const struct member *member = look_at_frames(&search, modules, first);
+    if (!member)
+        return;
+    for (unsigned number = 0; number < MOST_CALLS_TOLD && number < first[1].head; number++)
+        calls[number] = frames[number].address;
+    char type[1024], name[2048];
+    short_function(type, sizeof type, member->type);
+    snprintf(name, sizeof name, "%s::%s", type, member->name);
+    struct known *slot = known_at(sum_of_calls(modules, calls, MOST_CALLS_TOLD));
+    free(slot->name);
+    slot->name = must(strdup(name));
+}
+
+/* Names the member that a lock is which these calls take first, or gives NULL if that isn't known. */
+const char *member_of_calls(const struct modules *modules, const struct unit *first, unsigned following)
+{
+    return known_at(sum_of_calls(modules, (const uint64_t *)&first[1], 2 * following))->name;
 }

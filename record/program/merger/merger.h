@@ -124,7 +124,6 @@ struct lock {
     uint32_t holder;  /* the task that has it alone, or 0 */
     uint32_t readers; /* how many times it is held by tasks that share it */
     uint32_t level;
-    const struct unit *frames; /* of the calls that are about to take it first */
 };
 
 /* That a task holds a lock. */
@@ -141,6 +140,7 @@ struct taking {
     bool waits; /* or might have */
     bool is_shared;
     bool is_recursive; /* the lock's readers may read it again while a writer waits */
+    bool nests;        /* its holder may take it again */
 };
 
 struct locks {
@@ -161,6 +161,7 @@ struct place {
 struct wait {
     const struct unit *first; /* of the record */
     uint32_t task;
+    size_t held; /* how many locks the task held then */
 };
 
 /* What a child of a fork begins with. */
@@ -268,8 +269,8 @@ extern size_t through_count;
 extern bool *through_met;
 
 /* members.c */
-bool name_member(const struct modules *modules, const struct unit *first, unsigned following,
-                 const struct unit *frames, char *name, size_t size);
+void add_frames_told(const struct modules *modules, const struct unit *first);
+const char *member_of_calls(const struct modules *modules, const struct unit *first, unsigned following);
 
 /* inlined.c */
 void mend_by_entries(struct binary *binary, struct site *site);
@@ -296,8 +297,7 @@ size_t telling_calls(const struct modules *modules, const uint64_t *calls, unsig
 
 /* classes.c */
 struct class *class_of_init(const struct modules *modules, const struct unit *first, unsigned following);
-struct class *class_of_first(const struct modules *modules, const struct unit *first, unsigned following,
-                             const struct unit *frames);
+struct class *class_of_first(const struct modules *modules, const struct unit *first, unsigned following);
 struct class *class_of_static(const struct modules *modules, uint64_t address);
 struct class *readers_of(struct class *class);
 struct class *class_of_instance(struct class *class);
@@ -345,6 +345,7 @@ void say_misuse(void);
 /* waits.c */
 void begin_wait(uint32_t task, const struct unit *first);
 void end_wait(uint32_t task, uint64_t address);
+void end_waits_from(uint32_t task, size_t held);
 size_t waits_left(const struct wait **all);
 void forget_waits(void);
 

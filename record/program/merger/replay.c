@@ -33,30 +33,31 @@ static void on_first(uint64_t address, const struct unit *first, unsigned follow
         return;
     struct class *class = following ? NULL : class_of_static(&modules, address);
     if (!class)
-        class = class_of_first(&modules, first, following, lock->frames);
-    lock->frames = NULL;
+        class = class_of_first(&modules, first, following);
     begin_lock(lock, class);
 }
 
 static struct taking taking_by(enum operation got)
 {
     return (struct taking){
-        .waits = got == RECORD_ACQUIRE || got == RECORD_WRITE || got == RECORD_READ || got == RECORD_SHARE,
+        .waits = got == RECORD_ACQUIRE || got == RECORD_NESTING || got == RECORD_WRITE || got == RECORD_READ ||
+                 got == RECORD_SHARE,
+        .nests = got == RECORD_NESTING || got == RECORD_TRY_NESTING,
         .is_shared = got == RECORD_READ || got == RECORD_SHARE || got == RECORD_TRY_READ,
         .is_recursive = got == RECORD_READ || got == RECORD_WRITE || got == RECORD_TRY_WRITE,
     };
 }
 
-/* A lock that someone else is seen to get was given back by a call that wasn't seen, or by the end of
-   its holder. Inner levels of a recursive mutex aren't written. */
+/* A lock that is got while someone has it was given back by a call that wasn't seen, or by the end of its holder, or
+   was made anew by an assignment. Inner levels of a recursive mutex aren't written. */
 static void on_got(enum operation operation, uint32_t task, const struct unit *first)
 {
     struct lock *lock = find_lock(&locks, first->value, true);
     struct taking taking = taking_by(operation);
     end_wait(task, first->value);
     if (!lock->class)
-        begin_lock(lock, class_of_first(&modules, first, 0, NULL));
-    if (lock->holder == task && !taking.is_shared) {
+        begin_lock(lock, class_of_first(&modules, first, 0));
+    if (lock->holder == task && taking.nests) {
         lock->level++;
         return;
     }
@@ -89,7 +90,8 @@ static void note_condition(uint32_t task, struct lock *lock, uint32_t place)
         note_misuse(MISUSE_CONDITION, lock->class, locks.all[held[count - 2].lock].class, place);
 }
 
-/* Whoever gives the lock back: it is its holder's no more. Who reads it gives back what it has of its own. */
+/* Whoever gives the lock back: it is its holder's no more. Who reads it gives back what it has of its own. A task that
+   gives back what it held when it began to wait doesn't wait any more. */
 static void on_release(enum operation operation, uint32_t task, const struct unit *first)
 {
     struct lock *lock = find_lock(&locks, first->value, operation == RECORD_RELEASE_OTHER);
@@ -106,6 +108,8 @@ static void on_release(enum operation operation, uint32_t task, const struct uni
     } else if (lock->holder) {
         write_released(lock->holder, lock, &locks);
     }
+    const struct hold *held;
+    end_waits_from(task, held_by(task, &held) + 1);
 }
 
 /* A mutex that is held can't be destroyed; other locks, and those of C11, are all the same. */
@@ -139,7 +143,7 @@ static bool take_told(enum operation operation, const struct unit *first)
             add_place(&modules, first);
         return true;
     case RECORD_FRAMES:
-        find_lock(&locks, first->value, true)->frames = first;
+        add_frames_told(&modules, first);
         return true;
     default:
         return false;
@@ -159,6 +163,7 @@ static bool take_wait(enum operation operation, const struct unit *first, uint32
         return true;
     case RECORD_END:
         end_task(task);
+        end_waits_from(task, 0);
         return true;
     default:
         return false;
@@ -182,6 +187,8 @@ static void step(const struct unit *first, uint32_t task)
     case RECORD_READ:
     case RECORD_SHARE:
     case RECORD_TRY_READ:
+    case RECORD_NESTING:
+    case RECORD_TRY_NESTING:
         on_got(operation, task, first);
         break;
     case RECORD_RELEASE:

@@ -15,9 +15,10 @@ void begin_wait(uint32_t task, const struct unit *first)
         waits_of = grown(waits_of, task_count, &task_room, sizeof *waits_of);
         waits_of[task_count++] = 0;
     }
+    const struct hold *held;
     waits_of[task]++;
     waits = grown(waits, wait_count, &wait_room, sizeof *waits);
-    waits[wait_count++] = (struct wait){first, task};
+    waits[wait_count++] = (struct wait){first, task, held_by(task, &held)};
 }
 
 /* The task got the lock at an address, or gave it up. Mostly it didn't wait. */
@@ -34,6 +35,21 @@ void end_wait(uint32_t task, uint64_t address)
         waits[at - 1] = waits[at];
     wait_count--;
     waits_of[task]--;
+}
+
+/* The task left the waits that it began with so many locks, by a jump out of a signal handler or by its end. */
+void end_waits_from(uint32_t task, size_t held)
+{
+    if (task >= task_count || waits_of[task] == 0)
+        return;
+    size_t kept = 0;
+    for (size_t at = 0; at < wait_count; at++) {
+        if (waits[at].task == task && waits[at].held >= held)
+            waits_of[task]--;
+        else
+            waits[kept++] = waits[at];
+    }
+    wait_count = kept;
 }
 
 size_t waits_left(const struct wait **all)

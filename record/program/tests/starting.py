@@ -1,6 +1,7 @@
 """What `run` says of a stream before the program runs, and where there is nothing to record."""
 
 import os
+import resource
 import shutil
 import signal
 import subprocess
@@ -124,6 +125,14 @@ def check_no_folder(directory):
         answer = record(stream, "none", ["touch", ran])
         must((answer.returncode, answer.stderr) == (125, f"{SAYS}{stream}: {text}\n"),
              f"{stream}: {answer.returncode} {answer.stderr}")
+    stream = os.path.join(directory, "no-folder.trace")
+    old(stream)
+    # Where no file may have a byte, there is no folder for the recording either.
+    answer = record(stream, "none", ["touch", ran],
+                    preexec_fn=lambda: resource.setrlimit(resource.RLIMIT_FSIZE, (0, 0)))
+    must(answer.returncode == 125 and answer.stderr.startswith(f"{SAYS}there is no folder for the recording: ")
+         and answer.stderr.endswith(": name one by TMPDIR\n"), f"no temporary folder: {answer}")
+    must(os.path.exists(stream), "the earlier recording is gone though there is no new one")
     must(not os.path.exists(ran), "the program ran though its stream can't be written")
     answer = record("/dev/null", "none", ["true"])
     must(answer.returncode == 0, f"/dev/null: {answer.stderr}")
