@@ -12,7 +12,7 @@ use Rattle.ld_places.specs.Places.{PlainFile}
 use Rattle.ld_places.specs.ShownPlaces.{has_origin}
 use Rattle.lockgraph.specs.declared.news.Telling.{Telling}
 use Rattle.lockgraph.specs.declared.news.Telling.TheVariants as tellings
-use Rattle.lockgraph.specs.News.{IsFixedOf, IsNewsOf, IsNewsWith, IsToldOf, IsToldWith, verdict_of_new}
+use Rattle.lockgraph.specs.News.{ComesToNew, IsFixedOf, IsNewsOf, IsNewsWith, IsToldOf, IsToldWith, verdict_of_new}
 use Rattle.lockgraph.specs.Shown.{verdict_of_read}
 
 pub news-permuted : (sources listed in_order : List PlainSource) → IsPermutation sources listed → in_order ≡ sources
@@ -24,6 +24,14 @@ news-permuted sources listed in_order moved ordered files known text verdict new
   text_is = news.text_is;
   few = λ one none. news.few one (ap (list_any has_origin) ordered ∙ none);
   verdict_is = news.verdict_is ∙ ap (λ (t : Totals). verdict_of_new (count_new news.report known) t.refused) (totals-permuted sources listed moved);
+}
+
+pub comes-permuted : (sources listed : List PlainSource) → IsPermutation sources listed
+    → (known : List ℕ) (verdict : Verdict) → ComesToNew listed known verdict → ComesToNew sources known verdict
+comes-permuted sources listed moved known verdict comes = record {
+  report = comes.report;
+  is = report-permuted sources listed moved comes.report comes.is;
+  verdict_is = comes.verdict_is ∙ ap (λ (t : Totals). verdict_of_new (count_new comes.report known) t.refused) (totals-permuted sources listed moved);
 }
 
 pub fixed-permuted : (sources listed : List PlainSource) → IsPermutation sources listed

@@ -1,0 +1,10 @@
+-- The verdict is that of what is new in the book's report.
+use Rattle.std.proofs.Common.{rules}
+use Rattle.lockgraph.proofs.rows.news_told_in.Goals as goal
+
+pub returns-clause-verdict : goal.returns-clause-verdict
+returns-clause-verdict c = record {
+  report = c.in_ok-report.report.items;
+  is = c.in_ok-report.ensures.text;
+  verdict_is = search rules;
+}
