@@ -154,6 +154,10 @@ def check_nothing_seen(directory):
         text = f"{stream} wasn't written: {program} is static, so that it loads no recorder\n"
         must((answer.returncode, answer.stderr) == (3, SAYS + text), f"static: {answer.stderr}")
         must(not os.path.exists(stream), "there is a stream of a static program")
+    answer = record(stream, "no-file", ["true"],
+                    preexec_fn=lambda: resource.setrlimit(resource.RLIMIT_FSIZE, (65536, 65536)))
+    must("ended before it loaded the recorder, or could make no file of 256 KiB in " in answer.stderr,
+         f"no file: {answer.stderr}")
     if os.geteuid() != 0 or os.statvfs(directory).f_flag & os.ST_NOSUID:
         return
     rights = os.path.join(directory, "rights")
