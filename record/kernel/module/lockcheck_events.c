@@ -34,8 +34,9 @@ static void find_unit(void)
 	for_each_possible_cpu(one)
 		for_each_possible_cpu(other)
 			if (per_cpu_ptr(&of_processor, one) > per_cpu_ptr(&of_processor, other))
-				unit = min_t(unsigned long, unit, per_cpu_ptr(&of_processor, one) -
-					     per_cpu_ptr(&of_processor, other));
+				unit = min_t(unsigned long, unit,
+					     per_cpu_ptr(&of_processor, one) -
+						 per_cpu_ptr(&of_processor, other));
 }
 
 /*
@@ -54,7 +55,8 @@ static const void *static_key(const struct lockdep_map *lock)
 		end = (unsigned long)per_cpu_ptr(&of_processor, cpu) + PERCPU_MODULE_RESERVE;
 		if (address < end && end - address <= unit)
 			return (const void *)(address - (unsigned long)per_cpu_ptr(&of_processor, cpu) +
-					      (unsigned long)per_cpu_ptr(&of_processor, cpumask_first(cpu_possible_mask)));
+					      (unsigned long)per_cpu_ptr(&of_processor,
+									 cpumask_first(cpu_possible_mask)));
 	}
 	return lock;
 }
@@ -120,8 +122,8 @@ static struct lockdep_map *ordered_under(struct lockdep_map *lock, unsigned int 
 	return last;
 }
 
-static void on_acquire(void *data, struct lockdep_map *lock, unsigned int subclass, int trylock,
-		       int read, int check, struct lockdep_map *nest, unsigned long caller)
+static void on_acquire(void *data, struct lockdep_map *lock, unsigned int subclass, int trylock, int read,
+		       int check, struct lockdep_map *nest, unsigned long caller)
 {
 	if (!trace_acquire_enabled())
 		return;

@@ -10,6 +10,9 @@
 #include <linux/string.h>
 #include <linux/tracepoint.h>
 
+/* The macros of tracepoints are laid out as in the kernel. */
+/* clang-format off */
+
 /*
  * `how` is 1 for a trylock, and 2 where lockdep checks. `held` is how many locks lockdep has of the task
  * before this one, since it takes a lock up after the event, and the task may be preempted before that;
@@ -71,6 +74,8 @@ TRACE_EVENT(release,
 
 	TP_printk("%p", __entry->lock)
 );
+
+/* clang-format on */
 
 #endif /* LOCKCHECK_EVENTS_H */
 

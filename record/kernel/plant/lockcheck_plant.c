@@ -188,6 +188,7 @@ static int plant_clean(void)
 }
 
 /* Each once. lockdep stops at the first; a recording goes on. */
+/* clang-format off */
 static const struct {
 	const char *name;
 	int (*plant)(void);
@@ -200,6 +201,7 @@ static const struct {
 	{ "walk", plant_walk },
 	{ "recursion", plant_recursion },
 };
+/* clang-format on */
 
 static int __init plant_init(void)
 {

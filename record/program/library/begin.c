@@ -36,8 +36,7 @@ static uint64_t generations;
 
 static bool make_life(void)
 {
-    struct life *new = mmap(NULL, sizeof *new, PROT_READ | PROT_WRITE,
-                            MAP_PRIVATE | MAP_ANONYMOUS, -1, 0);
+    struct life *new = mmap(NULL, sizeof *new, PROT_READ | PROT_WRITE, MAP_PRIVATE | MAP_ANONYMOUS, -1, 0);
     if (new == MAP_FAILED)
         return false;
     struct life *none = NULL;
@@ -73,8 +72,8 @@ static int open_file(void)
     int file = -1;
     for (unsigned turn = 0; turn < 1000000; turn++) {
         snprintf(path, sizeof path, "%s/%ld.%u", directory, (long)getpid(), turn);
-        file = (int)syscall(SYS_openat, AT_FDCWD, path,
-                            O_RDWR | O_CREAT | O_EXCL | O_CLOEXEC | O_NOFOLLOW, 0644);
+        file = (int)syscall(SYS_openat, AT_FDCWD, path, O_RDWR | O_CREAT | O_EXCL | O_CLOEXEC | O_NOFOLLOW,
+                            0644);
         if (file >= 0 || errno != EEXIST)
             break;
     }

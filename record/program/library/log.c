@@ -40,8 +40,8 @@ static void leave(void)
     self.inside--;
 }
 
-static void finish_at(struct unit *first, enum operation operation, unsigned following,
-                      unsigned place, uint64_t value)
+static void finish_at(struct unit *first, enum operation operation, unsigned following, unsigned place,
+                      uint64_t value)
 {
     uint64_t number = __atomic_fetch_add(&life->numbers, 1, __ATOMIC_ACQ_REL);
     self.last_number = number + 1;

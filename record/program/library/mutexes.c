@@ -95,8 +95,8 @@ EXPORTED int pthread_cond_timedwait(pthread_cond_t *condition, pthread_mutex_t *
     return waited(mutex, answer, HERE);
 }
 
-EXPORTED int pthread_cond_clockwait(pthread_cond_t *condition, pthread_mutex_t *mutex,
-                                    clockid_t clock, const struct timespec *until)
+EXPORTED int pthread_cond_clockwait(pthread_cond_t *condition, pthread_mutex_t *mutex, clockid_t clock,
+                                    const struct timespec *until)
 {
     int answer;
     record_at(RECORD_CONDITION, mutex, HERE);

@@ -2,6 +2,7 @@
 #ifndef NEXT_H
 #define NEXT_H
 
+/* clang-format off */
 #define NEXT_CALLS(each)            \
     each(pthread_mutex_init)        \
     each(pthread_mutex_destroy)     \
@@ -37,6 +38,7 @@
     each(mtx_unlock)                \
     each(cnd_wait)                  \
     each(cnd_timedwait)
+/* clang-format on */
 
 enum next {
 #define NUMBER(call) NEXT_##call,

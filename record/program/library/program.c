@@ -37,8 +37,8 @@ static const char *started_as(void)
 {
     const char *path = (const char *)getauxval(AT_EXECFN);
     struct stat started, own_file;
-    if (!path || strncmp(path, "/proc/", 6) == 0 || strncmp(path, "/dev/", 5) == 0 || stat(path, &started) != 0 ||
-        stat("/proc/self/exe", &own_file) != 0)
+    if (!path || strncmp(path, "/proc/", 6) == 0 || strncmp(path, "/dev/", 5) == 0 ||
+        stat(path, &started) != 0 || stat("/proc/self/exe", &own_file) != 0)
         return program;
     return started.st_dev == own_file.st_dev && started.st_ino == own_file.st_ino ? path : program;
 }
@@ -50,8 +50,8 @@ static void find_arguments(void)
     if (file < 0)
         return;
     long length;
-    while (argument_bytes < sizeof arguments &&
-           (length = syscall(SYS_read, file, arguments + argument_bytes, sizeof arguments - argument_bytes)) > 0)
+    while (argument_bytes < sizeof arguments && (length = syscall(SYS_read, file, arguments + argument_bytes,
+                                                                  sizeof arguments - argument_bytes)) > 0)
         argument_bytes += (size_t)length;
     syscall(SYS_close, file);
 }

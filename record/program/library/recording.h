@@ -48,7 +48,7 @@ enum operation {
     RECORD_CONDITION,     /* as RECORD_RELEASE, by a wait on a condition */
     RECORD_KEPT,          /* [lock] wasn't destroyed, since it is held */
     RECORD_END,           /* the thread ends, unless more of it follows */
-    RECORD_FRAMES,  /* [lock] is about to be told as taken first, by these frames: their number and the end of what
+    RECORD_FRAMES, /* [lock] is about to be told as taken first, by these frames: their number and the end of what
                        is known of the stack, then each `struct told_frame`, then the stack */
     /* Of a mutex that its holder may take again: */
     RECORD_NESTING,     /* as RECORD_ACQUIRE */
@@ -62,13 +62,15 @@ struct unit {
     uint64_t value;
 };
 
+/* It would take `&` for that of an address. */
+/* clang-format off */
 #define HEAD_OPERATION(head) ((enum operation)((head) & 0x1f))
+/* clang-format on */
 #define HEAD_FOLLOWING(head) ((unsigned)((head) >> 5 & 0xff))
 #define HEAD_PLACE(head) ((unsigned)((head) >> 13 & 0xffff))
 #define HEAD_NUMBER(head) ((head) >> 29)
-#define HEAD_OF(operation, following, place, number)                                      \
-    ((uint64_t)(number) << 29 | (uint64_t)(place) << 13 | (uint64_t)(following) << 5 | \
-     (uint64_t)(operation))
+#define HEAD_OF(operation, following, place, number) \
+    ((uint64_t)(number) << 29 | (uint64_t)(place) << 13 | (uint64_t)(following) << 5 | (uint64_t)(operation))
 
 /* A place is the return address of a call. The place inside it, if there is one, is that of the call
    which led from there to the recorder. */
@@ -117,7 +119,7 @@ struct process {
     char program[2048];
     char name[256]; /* of the program, as it was started */
     uint64_t argument_bytes;
-    char arguments[MOST_ARGUMENT_BYTES]; /* with its name before them, each with a 0 behind it; maybe cut off */
+    char arguments[MOST_ARGUMENT_BYTES]; /* with its name before them, each ended by a 0; maybe cut off */
 };
 
 #define PROCESS_BYTES 4096

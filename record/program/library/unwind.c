@@ -275,8 +275,8 @@ static bool read_entry(struct rule *rule, const unsigned char *at, uint64_t addr
         return false;
     rule->is_based = program.now.from == REGISTER_BASE;
     rule->offset = (int32_t)program.now.offset;
-    rule->base = program.now.base < -MOST_FRAME_BYTES || program.now.base > 0 ? BASE_LOST
-                                                                             : (int32_t)program.now.base;
+    rule->base =
+        program.now.base < -MOST_FRAME_BYTES || program.now.base > 0 ? BASE_LOST : (int32_t)program.now.base;
     return true;
 }
 

@@ -44,9 +44,8 @@ static void map_file(struct binary *binary)
 const Elf64_Ehdr *header_of(const struct binary *binary)
 {
     const Elf64_Ehdr *header = part(binary, 0, sizeof *header);
-    if (!header || memcmp(header->e_ident, ELFMAG, SELFMAG) != 0 ||
-        header->e_ident[EI_CLASS] != ELFCLASS64 || header->e_shentsize != sizeof(Elf64_Shdr) ||
-        header->e_phentsize != sizeof(Elf64_Phdr))
+    if (!header || memcmp(header->e_ident, ELFMAG, SELFMAG) != 0 || header->e_ident[EI_CLASS] != ELFCLASS64 ||
+        header->e_shentsize != sizeof(Elf64_Shdr) || header->e_phentsize != sizeof(Elf64_Phdr))
         return NULL;
     return header;
 }
@@ -92,10 +91,10 @@ static void add_table(struct binary *binary, const Elf64_Shdr *table, const Elf6
     for (uint64_t number = 0; number < table->sh_size / sizeof *all; number++) {
         if (!is_wanted(&all[number]) || all[number].st_name >= strings->sh_size)
             continue;
-        binary->symbols = grown(binary->symbols, binary->symbol_count, &binary->symbol_room,
-                                sizeof *binary->symbols);
-        binary->symbols[binary->symbol_count++] = (struct symbol){
-            all[number].st_value, all[number].st_size, text + all[number].st_name};
+        binary->symbols =
+            grown(binary->symbols, binary->symbol_count, &binary->symbol_room, sizeof *binary->symbols);
+        binary->symbols[binary->symbol_count++] =
+            (struct symbol){all[number].st_value, all[number].st_size, text + all[number].st_name};
     }
 }
 

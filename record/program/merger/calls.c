@@ -15,8 +15,7 @@ struct frames {
 
 /* Answers whether a function begins at `start` and a place is in it. Where there is no symbol for the
    place it may be. */
-static bool may_hold(const struct module *module, uint64_t start, const struct module *inner,
-                     uint64_t offset)
+static bool may_hold(const struct module *module, uint64_t start, const struct module *inner, uint64_t offset)
 {
     uint64_t into;
     if (inner != module || start > offset)
@@ -211,8 +210,8 @@ size_t telling_calls(const struct modules *modules, const uint64_t *calls, unsig
 
 /* Gives the call that tells a lock's class, or false where there is none in any module; and where it is
    asked for a number for the calls that led there. */
-bool telling_call(const struct modules *modules, const uint64_t *calls, unsigned count,
-                  struct call *call, uint64_t *callers)
+bool telling_call(const struct modules *modules, const uint64_t *calls, unsigned count, struct call *call,
+                  uint64_t *callers)
 {
     struct frames frames = {.count = 0};
     each_place(modules, calls, count, add_frames, &frames);

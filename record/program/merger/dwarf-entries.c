@@ -53,12 +53,15 @@ enum {
 /* Gives how many bytes a number has in a form of fixed length, or 0. */
 static unsigned bytes_of(const struct debug_unit *unit, uint64_t form)
 {
+    /* Some have no designator. */
+    /* clang-format off */
     static const unsigned char sizes[] = {
         [FORM_DATA1] = 1, [FORM_FLAG] = 1, [FORM_REFERENCE1] = 1, [FORM_DATA2] = 2, [FORM_REFERENCE2] = 2,
         [FORM_DATA4] = 4, [FORM_REFERENCE4] = 4, [FORM_OTHER_REFERENCE4] = 4, [FORM_DATA8] = 8,
         [FORM_REFERENCE8] = 8, [FORM_SIGNATURE] = 8, [FORM_OTHER_REFERENCE8] = 8,
         [FORM_TEXT_NUMBER1] = 1, 2, 3, 4, [FORM_ADDRESS_NUMBER1] = 1, 2, 3, 4,
     };
+    /* clang-format on */
     if (form == FORM_ADDRESS)
         return unit->address_bytes;
     if (form == FORM_OFFSET || form == FORM_TEXT_AT || form == FORM_LINE_TEXT_AT || form == FORM_OTHER_TEXT ||
@@ -146,21 +149,34 @@ static bool is_number(const struct value *value)
     return !value->bytes.at && value->form != FORM_TEXT && value->form != FORM_DATA16;
 }
 
-static void keep(const struct debug *debug, struct entry *entry, uint64_t attribute, const struct value *value)
+static void keep(const struct debug *debug, struct entry *entry, uint64_t attribute,
+                 const struct value *value)
 {
     const struct debug_unit *unit = entry->unit;
     switch (attribute) {
     case 0x01: entry->sibling = reference(unit, value); break;
     case 0x02: entry->location = *value; break;
     case 0x03: entry->name = text_value(debug, unit, value); break;
-    case 0x0b: entry->has_size = is_number(value); entry->size = value->number; break;
+    case 0x0b:
+        entry->has_size = is_number(value);
+        entry->size = value->number;
+        break;
     case 0x11: entry->low = *value; break;
     case 0x12: entry->high = *value; break;
-    case 0x2f: entry->has_count = is_number(value); entry->count = value->number + 1; break;
-    case 0x37: entry->has_count = is_number(value); entry->count = value->number; break;
+    case 0x2f:
+        entry->has_count = is_number(value);
+        entry->count = value->number + 1;
+        break;
+    case 0x37:
+        entry->has_count = is_number(value);
+        entry->count = value->number;
+        break;
     case 0x31:
     case 0x47: entry->origin = reference(unit, value); break;
-    case 0x38: entry->has_offset = is_number(value); entry->offset = value->number; break;
+    case 0x38:
+        entry->has_offset = is_number(value);
+        entry->offset = value->number;
+        break;
     case 0x3c: entry->is_declaration = value->number != 0; break;
     case 0x40: entry->frame_base = *value; break;
     case 0x49: entry->type = reference(unit, value); break;
@@ -194,8 +210,8 @@ static void read_abbreviations(const struct debug *debug, struct debug_unit *uni
         }
         if (!rest.at)
             return;
-        unit->abbreviations = grown(unit->abbreviations, unit->abbreviation_count, &unit->abbreviation_room,
-                                    sizeof one);
+        unit->abbreviations =
+            grown(unit->abbreviations, unit->abbreviation_count, &unit->abbreviation_room, sizeof one);
         unit->abbreviations[unit->abbreviation_count++] = one;
     }
 }

@@ -90,8 +90,8 @@ bool each_range(const struct debug *debug, const struct entry *entry, see_range 
     const struct debug_unit *unit = entry->unit;
     if (entry->low.form && entry->high.form) {
         uint64_t low = address_value(debug, unit, &entry->low);
-        uint64_t high = is_address(&entry->high) ? address_value(debug, unit, &entry->high)
-                                                 : low + entry->high.number;
+        uint64_t high =
+            is_address(&entry->high) ? address_value(debug, unit, &entry->high) : low + entry->high.number;
         return see(argument, low, high);
     }
     if (!entry->ranges.form)

@@ -53,7 +53,8 @@ static void *slot_of(void *all, size_t room, const void *element)
 const char *qualified_name(struct debug *debug, const struct entry *type)
 {
     char text[NAME_BYTES] = "";
-    debug->names = grown_table(debug->names, debug->name_count, &debug->name_room, sizeof *debug->names, slot_of);
+    debug->names =
+        grown_table(debug->names, debug->name_count, &debug->name_room, sizeof *debug->names, slot_of);
     struct type_name *slot = slot_of(debug->names, debug->name_room, &(struct type_name){.at = type->at});
     if (!slot->text) {
         struct entry declared;
@@ -155,8 +156,8 @@ static void name_part(const struct entry *record, const struct entry *part, cons
 
 /* Goes on in the member or the base of a record in which an offset is. Of a library's record that has no name that
    tells anything, and of one without a name, what stands around it has. */
-static bool find_in_record(struct debug *debug, const struct entry *record, uint64_t offset, const char *given,
-                           unsigned depth, struct member *member)
+static bool find_in_record(struct debug *debug, const struct entry *record, uint64_t offset,
+                           const char *given, unsigned depth, struct member *member)
 {
     struct entry part = {.at = 0};
     const char *name = qualified_name(debug, record);

@@ -62,7 +62,7 @@ struct debug_unit {
     size_t abbreviation_count, abbreviation_room;
     uint64_t abbreviations_at;
     uint64_t low;
-    uint64_t bases[BASES]; /* where the unit's own parts of other sections begin */
+    uint64_t bases[BASES];   /* where the unit's own parts of other sections begin */
     struct range *functions; /* read where one of them is looked for */
     size_t function_count, function_room;
     bool has_functions;
@@ -93,8 +93,8 @@ struct entry {
     bool has_children, is_declaration;
     const char *name;
     uint64_t type, origin, sibling; /* offsets of other entries, or 0 */
-    uint64_t size, count, offset; /* of the type, of the range, of the member */
-    uint64_t call_column;         /* where an inlined function is called */
+    uint64_t size, count, offset;   /* of the type, of the range, of the member */
+    uint64_t call_column;           /* where an inlined function is called */
     bool has_size, has_count, has_offset;
     struct value location, frame_base, low, high, ranges;
     uint64_t bases[BASES]; /* of a unit */
@@ -116,7 +116,7 @@ struct machine {
     uint64_t address; /* in the file, of the last byte of the call */
     uint64_t load;
     uint64_t registers[REGISTERS];
-    unsigned known; /* a bit for each register */
+    unsigned known;       /* a bit for each register */
     uint64_t outer_stack; /* where the stack was before this frame, or 0 */
     uint64_t stack;
     struct bytes memory; /* from there on */
@@ -132,8 +132,8 @@ const char *qualified_name(struct debug *debug, const struct entry *type);
 /* dwarf-ranges.c */
 uint64_t address_numbered(const struct debug *debug, const struct debug_unit *unit, uint64_t number);
 uint64_t address_value(const struct debug *debug, const struct debug_unit *unit, const struct value *value);
-bool each_range(const struct debug *debug, const struct entry *entry,
-                bool (*see)(void *, uint64_t, uint64_t), void *argument);
+bool each_range(const struct debug *debug, const struct entry *entry, bool (*see)(void *, uint64_t, uint64_t),
+                void *argument);
 bool holds_address(const struct debug *debug, const struct entry *entry, uint64_t address);
 bool function_at(struct debug *debug, uint64_t address, struct entry *function);
 

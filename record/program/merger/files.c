@@ -115,7 +115,8 @@ static void place_record(struct recording *recording, uint64_t head, struct plac
 /* Keeps a record, with the others in the order in which they stand in the file. */
 static void add_record(struct recording *recording, struct place place)
 {
-    recording->places = grown(recording->places, recording->place_count, &recording->place_room, sizeof place);
+    recording->places =
+        grown(recording->places, recording->place_count, &recording->place_room, sizeof place);
     recording->places[recording->place_count++] = place;
 }
 

@@ -21,8 +21,7 @@ bool has_addr2line = true;
 
 static void add_site(struct binary *binary, struct site site)
 {
-    binary->sites =
-        grown(binary->sites, binary->site_count, &binary->site_room, sizeof *binary->sites);
+    binary->sites = grown(binary->sites, binary->site_count, &binary->site_room, sizeof *binary->sites);
     binary->sites[binary->site_count++] = site;
 }
 

@@ -15,6 +15,8 @@ static const char *const known_starts[] = {"__gthread_", "__gthrw_", "std::", "_
 static const char *const inits[] = {"pthread_mutex_init", "pthread_spin_init", "pthread_rwlock_init",
                                     "mtx_init"};
 
+/* A name a line would fill a page. */
+/* clang-format off */
 static const char *const known[] = {
     /* glib */
     "g_mutex_init", "g_mutex_lock", "g_mutex_trylock", "g_mutex_impl_new", "g_mutex_get_impl",
@@ -43,6 +45,7 @@ static const char *const known[] = {
     "boost::lock_guard::lock_guard", "boost::posix::pthread_mutex_init",
     "boost::posix::pthread_mutex_lock", "boost::posix::pthread_mutex_trylock",
 };
+/* clang-format on */
 
 /* Gives where a bracket that opens at `at` closes, or the end of the text. */
 static const char *behind_bracket(const char *at, char open, char close)
@@ -124,8 +127,7 @@ static int by_line_and_function(const void *left, const void *right)
 {
     int order = by_line(left, right);
     return order ? order
-                 : strcmp(((const struct frame *)left)->function,
-                          ((const struct frame *)right)->function);
+                 : strcmp(((const struct frame *)left)->function, ((const struct frame *)right)->function);
 }
 
 /* Keeps which function a source line is in. */
@@ -185,8 +187,7 @@ bool is_through(const char *function, const char *short_name, bool *is_met)
 {
     bool is_any = false;
     for (size_t number = 0; number < through_count; number++) {
-        if (strcmp(through[number], short_name) != 0 &&
-            (!function || strcmp(through[number], function) != 0))
+        if (strcmp(through[number], short_name) != 0 && (!function || strcmp(through[number], function) != 0))
             continue;
         is_any = true;
         if (is_met)

@@ -84,8 +84,8 @@ static void skip(struct reader *reader, uint64_t count)
 }
 
 /* Reads a field of an entry of version 5, as a text or a number. */
-static void field(struct reader *reader, const struct unit_lines *unit, uint64_t form,
-                  const char **text, uint64_t *number)
+static void field(struct reader *reader, const struct unit_lines *unit, uint64_t form, const char **text,
+                  uint64_t *number)
 {
     static const unsigned char sizes[32] = {[0x0b] = 1, [0x05] = 2, [0x06] = 4, [0x07] = 8};
     if (form == 0x08)
@@ -113,8 +113,8 @@ static void add_name(struct file_name **all, size_t *count, size_t *room, struct
 }
 
 /* Reads a list of version 5: what its entries have, and the entries. */
-static void names_by_format(struct reader *reader, const struct unit_lines *unit,
-                            struct file_name **all, size_t *count, size_t *room)
+static void names_by_format(struct reader *reader, const struct unit_lines *unit, struct file_name **all,
+                            size_t *count, size_t *room)
 {
     uint64_t contents[256], forms[256];
     unsigned fields = (unsigned)number_of(reader, 1);
@@ -142,8 +142,7 @@ static void names_by_format(struct reader *reader, const struct unit_lines *unit
 static void names_by_order(struct reader *reader, struct unit_lines *unit)
 {
     const char *text;
-    add_name(&unit->directories, &unit->directory_count, &unit->directory_room,
-             (struct file_name){NULL, 0});
+    add_name(&unit->directories, &unit->directory_count, &unit->directory_room, (struct file_name){NULL, 0});
     while ((text = text_of(reader)) && *text)
         add_name(&unit->directories, &unit->directory_count, &unit->directory_room,
                  (struct file_name){text, 0});
@@ -173,8 +172,7 @@ static const char *path_of(const struct unit_lines *unit, uint64_t file)
 }
 
 /* Gives a row to the places from its address to that of the next one. */
-static void close_row(struct reader *reader, const struct unit_lines *unit,
-                      const struct sequence *sequence)
+static void close_row(struct reader *reader, const struct unit_lines *unit, const struct sequence *sequence)
 {
     struct site *sites = reader->binary->sites;
     size_t low = 0, high = reader->binary->site_count;
@@ -227,8 +225,8 @@ static void extended_step(struct reader *reader, struct unit_lines *unit, struct
     reader->rest.at = end;
 }
 
-static void standard_step(struct reader *reader, const struct unit_lines *unit,
-                          struct sequence *sequence, unsigned step)
+static void standard_step(struct reader *reader, const struct unit_lines *unit, struct sequence *sequence,
+                          unsigned step)
 {
     struct row *row = &sequence->row;
     if (step == STEP_COPY)
@@ -263,8 +261,7 @@ static void run_steps(struct reader *reader, struct unit_lines *unit)
         } else {
             step -= unit->first_special;
             sequence.row.address += step / unit->line_range * unit->least_instruction;
-            sequence.row.line +=
-                (uint64_t)(int64_t)(unit->line_base + (int)(step % unit->line_range));
+            sequence.row.line += (uint64_t)(int64_t)(unit->line_base + (int)(step % unit->line_range));
             add_row(reader, unit, &sequence);
         }
     }
@@ -290,8 +287,7 @@ static bool read_head(struct reader *reader, struct unit_lines *unit, const unsi
     unit->operands = reader->rest.at;
     skip(reader, unit->first_special ? unit->first_special - 1 : 0);
     if (unit->version == 5) {
-        names_by_format(reader, unit, &unit->directories, &unit->directory_count,
-                        &unit->directory_room);
+        names_by_format(reader, unit, &unit->directories, &unit->directory_count, &unit->directory_room);
         names_by_format(reader, unit, &unit->files, &unit->file_count, &unit->file_room);
     } else {
         names_by_order(reader, unit);

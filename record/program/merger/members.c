@@ -17,10 +17,10 @@
 struct search {
     struct machine machine;
     uint64_t lock;
-    unsigned pointers;     /* that were looked at */
-    struct member found;   /* in the innermost frame that has a record of more than the lock */
-    struct member alone;   /* likewise, of a record that has nothing but the lock */
-    bool is_through;       /* the frame is of a function that the user named */
+    unsigned pointers;   /* that were looked at */
+    struct member found; /* in the innermost frame that has a record of more than the lock */
+    struct member alone; /* likewise, of a record that has nothing but the lock */
+    bool is_through;     /* the frame is of a function that the user named */
 };
 
 /* The calls whose lock was looked for, and what it is: nothing where it wasn't found. */
@@ -145,8 +145,8 @@ static void set_register(struct machine *machine, unsigned number, uint64_t valu
     machine->known |= 1u << number;
 }
 
-static bool look_at_frame(struct search *search, const struct modules *modules, const struct told_frame *frame,
-                          bool is_innermost)
+static bool look_at_frame(struct search *search, const struct modules *modules,
+                          const struct told_frame *frame, bool is_innermost)
 {
     static const unsigned kept[KEPT_REGISTERS] = {3, 6, 12, 13, 14, 15};
     struct machine *machine = &search->machine;

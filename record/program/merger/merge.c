@@ -42,15 +42,13 @@ static void say_limits(int64_t bytes)
     if (totals.events == 0)
         say("no process took a lock that the recorder sees: no report on the stream says anything");
     if (totals.too_deep)
-        say("%" PRIu64 " locks were left out: their task held %d already", totals.too_deep,
-            MOST_HELD);
+        say("%" PRIu64 " locks were left out: their task held %d already", totals.too_deep, MOST_HELD);
     if (totals.not_taken_up)
         say("%" PRIu64 " held locks were left out where a new trace began", totals.not_taken_up);
     if (totals.damaged)
         say("%" PRIu64 " records were damaged and left out", totals.damaged);
     if (totals.traces > MOST_TRACES)
-        say("the stream has %" PRIu64 " traces, and lockcheck reads no more than 65535",
-            totals.traces);
+        say("the stream has %" PRIu64 " traces, and lockcheck reads no more than 65535", totals.traces);
     if (bytes > MOST_STREAM_BYTES)
         say("the stream has more than 2147483648 bytes, and lockcheck reads no more");
 }
@@ -87,7 +85,8 @@ static void say_classes(void)
 static void write_process(const struct process *process, size_t number)
 {
     static char text[8 * PROCESS_BYTES];
-    size_t length = process->argument_bytes < MOST_ARGUMENT_BYTES ? process->argument_bytes : MOST_ARGUMENT_BYTES;
+    size_t length =
+        process->argument_bytes < MOST_ARGUMENT_BYTES ? process->argument_bytes : MOST_ARGUMENT_BYTES;
     const char *end = process->arguments + length;
     text[0] = 0;
     append_clean(text, sizeof text, process->program, "");

@@ -56,7 +56,7 @@ struct site {
 
 struct binary {
     char *path;
-    char *name; /* what others link it by, or its own without directories */
+    char *name;        /* what others link it by, or its own without directories */
     const char *bytes; /* NULL where it can't be read */
     uint64_t length;
     struct symbol *symbols;
@@ -99,7 +99,7 @@ struct class {
     char *places; /* how and where its locks came to be, for a reader */
     enum telling telling;
     uint64_t instances;
-    uint64_t trace; /* the latest trace that it is in */
+    uint64_t trace;           /* the latest trace that it is in */
     char *maker;              /* the function that makes its locks, as --through has it, or NULL */
     uint64_t callers;         /* a number for the calls up to that function, the first time */
     bool has_several_callers; /* they were others too */
@@ -290,8 +290,8 @@ bool leads_through(const struct call *call);
 bool is_place_through(const struct binary *binary, uint64_t offset);
 uint64_t sum_of_calls(const struct modules *modules, const uint64_t *calls, unsigned count);
 void name_function(char *name, size_t size, const struct call *call);
-bool telling_call(const struct modules *modules, const uint64_t *calls, unsigned count,
-                  struct call *call, uint64_t *callers);
+bool telling_call(const struct modules *modules, const uint64_t *calls, unsigned count, struct call *call,
+                  uint64_t *callers);
 size_t telling_calls(const struct modules *modules, const uint64_t *calls, unsigned count, struct call *found,
                      size_t most);
 

@@ -43,11 +43,12 @@ static void say_one(const struct misused *misused)
     name_place(place, sizeof place, misused->place);
     switch (misused->how) {
     case MISUSE_OTHER:
-        say("%" PRIu64 " times %s was given back by another thread than its holder, %s", misused->count, class, place);
+        say("%" PRIu64 " times %s was given back by another thread than its holder, %s", misused->count,
+            class, place);
         break;
     case MISUSE_UNTOLD:
-        say("%" PRIu64 " times %s was given back by another thread than its holder, which took it %s", misused->count,
-            class, place);
+        say("%" PRIu64 " times %s was given back by another thread than its holder, which took it %s",
+            misused->count, class, place);
         break;
     case MISUSE_FREE:
         say("%" PRIu64 " times %s was given back while nobody held it, %s", misused->count, class, place);

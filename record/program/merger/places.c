@@ -232,8 +232,8 @@ static void write_text(FILE *file)
     if (kept)
         qsort(taken, kept, sizeof *taken, by_class_and_count);
     for (size_t number = 0; number < kept; number++)
-        fprintf(file, "taken %s %" PRIu32 " %" PRIu64 "\n", taken[number].class->name,
-                taken[number].place, taken[number].count);
+        fprintf(file, "taken %s %" PRIu32 " %" PRIu64 "\n", taken[number].class->name, taken[number].place,
+                taken[number].count);
     fprintf(file, "numbers\n");
 }
 

@@ -40,8 +40,8 @@ static void on_first(uint64_t address, const struct unit *first, unsigned follow
 static struct taking taking_by(enum operation got)
 {
     return (struct taking){
-        .waits = got == RECORD_ACQUIRE || got == RECORD_NESTING || got == RECORD_WRITE || got == RECORD_READ ||
-                 got == RECORD_SHARE,
+        .waits = got == RECORD_ACQUIRE || got == RECORD_NESTING || got == RECORD_WRITE ||
+                 got == RECORD_READ || got == RECORD_SHARE,
         .nests = got == RECORD_NESTING || got == RECORD_TRY_NESTING,
         .is_shared = got == RECORD_READ || got == RECORD_SHARE || got == RECORD_TRY_READ,
         .is_recursive = got == RECORD_READ || got == RECORD_WRITE || got == RECORD_TRY_WRITE,
@@ -76,7 +76,8 @@ static void note_release(enum operation operation, uint32_t task, struct lock *l
     if (operation == RECORD_RELEASE_OTHER)
         note_misuse(is_held ? MISUSE_OTHER : MISUSE_FREE, lock->class, NULL, place);
     else if (operation == RECORD_RELEASE_ANY && is_held)
-        note_misuse(MISUSE_UNTOLD, lock->class, NULL, place_of_hold(next_holder(0, &locks, lock), &locks, lock));
+        note_misuse(MISUSE_UNTOLD, lock->class, NULL,
+                    place_of_hold(next_holder(0, &locks, lock), &locks, lock));
 }
 
 /* Notes a wait on a condition by a task that holds another lock than the one it gives back. */
@@ -129,24 +130,17 @@ static bool take_told(enum operation operation, const struct unit *first)
 {
     unsigned following = HEAD_FOLLOWING(first->head);
     switch (operation) {
-    case RECORD_MODULE:
-        add_module(&modules, first, following);
-        return true;
+    case RECORD_MODULE: add_module(&modules, first, following); return true;
     case RECORD_INIT:
         begin_lock(find_lock(&locks, first->value, true), class_of_init(&modules, first, following));
         return true;
-    case RECORD_FIRST:
-        on_first(first->value, first, following);
-        return true;
+    case RECORD_FIRST: on_first(first->value, first, following); return true;
     case RECORD_PLACE:
         if (following)
             add_place(&modules, first);
         return true;
-    case RECORD_FRAMES:
-        add_frames_told(&modules, first);
-        return true;
-    default:
-        return false;
+    case RECORD_FRAMES: add_frames_told(&modules, first); return true;
+    default: return false;
     }
 }
 
@@ -155,18 +149,13 @@ static bool take_wait(enum operation operation, const struct unit *first, uint32
 {
     switch (operation) {
     case RECORD_WAIT:
-    case RECORD_WAIT_READ:
-        begin_wait(task, first);
-        return true;
-    case RECORD_GIVE_UP:
-        end_wait(task, first->value);
-        return true;
+    case RECORD_WAIT_READ: begin_wait(task, first); return true;
+    case RECORD_GIVE_UP: end_wait(task, first->value); return true;
     case RECORD_END:
         end_task(task);
         end_waits_from(task, 0);
         return true;
-    default:
-        return false;
+    default: return false;
     }
 }
 
@@ -177,9 +166,7 @@ static void step(const struct unit *first, uint32_t task)
         return;
     switch (operation) {
     case RECORD_DESTROY:
-    case RECORD_KEPT:
-        on_destroy(operation == RECORD_KEPT, first);
-        break;
+    case RECORD_KEPT: on_destroy(operation == RECORD_KEPT, first); break;
     case RECORD_ACQUIRE:
     case RECORD_TRY:
     case RECORD_WRITE:
@@ -188,17 +175,12 @@ static void step(const struct unit *first, uint32_t task)
     case RECORD_SHARE:
     case RECORD_TRY_READ:
     case RECORD_NESTING:
-    case RECORD_TRY_NESTING:
-        on_got(operation, task, first);
-        break;
+    case RECORD_TRY_NESTING: on_got(operation, task, first); break;
     case RECORD_RELEASE:
     case RECORD_RELEASE_OTHER:
     case RECORD_RELEASE_ANY:
-    case RECORD_CONDITION:
-        on_release(operation, task, first);
-        break;
-    default:
-        totals.damaged++;
+    case RECORD_CONDITION: on_release(operation, task, first); break;
+    default: totals.damaged++;
     }
 }
 
@@ -243,13 +225,11 @@ static bool is_child(const struct process *child, const struct process *parent)
 
 /* Keeps the starts of the children that were forked before an event. A child began after its parent,
    so it stands behind it. */
-static void keep_starts(struct recording *all, size_t count, size_t which, uint64_t number,
-                        bool *is_kept)
+static void keep_starts(struct recording *all, size_t count, size_t which, uint64_t number, bool *is_kept)
 {
     for (size_t child = which + 1; child < count; child++) {
         const struct process *process = all[child].process;
-        if (!is_kept[child] && is_child(process, all[which].process) &&
-            process->parent_number <= number) {
+        if (!is_kept[child] && is_child(process, all[which].process) && process->parent_number <= number) {
             is_kept[child] = true;
             keep_start(&all[child]);
         }
@@ -291,8 +271,8 @@ static void say_wait(const struct recording *all, size_t count, size_t which, ui
     bool is_cut = all[which].process->ended != ENDED_NOT;
     const char *ended = !is_cut && still_runs(all, count, which) ? "still ran" : "ended";
     name_holder(holder, sizeof holder, lock, task);
-    say("%sprocess %zu %s while t%" PRIu32 " waited for %s, held by %s",
-        is_cut ? "the recording of " : "", which + 1, ended, task, lock->class->name, holder);
+    say("%sprocess %zu %s while t%" PRIu32 " waited for %s, held by %s", is_cut ? "the recording of " : "",
+        which + 1, ended, task, lock->class->name, holder);
 }
 
 /* Writes what tasks still wait for at the end. */

@@ -40,8 +40,8 @@ static int by_value(const void *left, const void *right)
 static bool is_wanted(const struct binary *binary, uint64_t target)
 {
     const struct sources *sources = binary->sources;
-    return sources->wanted_count && bsearch(&target, sources->wanted, sources->wanted_count,
-                                            sizeof *sources->wanted, by_value);
+    return sources->wanted_count &&
+           bsearch(&target, sources->wanted, sources->wanted_count, sizeof *sources->wanted, by_value);
 }
 
 static void want(struct binary *binary, const char *symbol, uint64_t target)

@@ -184,7 +184,8 @@ static unsigned is_new(const struct class *class)
 static void make_room(const struct locks *locks, const struct task *task, const struct class *class,
                       const struct class *other)
 {
-    if (traces_of_process == 0 || must_cut() || (task->trace != totals.traces && tasks_of_trace == MOST_TASKS) ||
+    if (traces_of_process == 0 || must_cut() ||
+        (task->trace != totals.traces && tasks_of_trace == MOST_TASKS) ||
         classes_of_trace + is_new(class) + is_new(other) > MOST_CLASSES)
         open_trace(locks);
 }
@@ -209,7 +210,8 @@ void hold_from_start(uint32_t task, struct locks *locks, struct hold hold)
 }
 
 /* Answers whether a task holds a lock of the class of another one, and notes in which order it took them. */
-static bool holds_class(const struct task *task, const struct locks *locks, const struct lock *lock, bool waits)
+static bool holds_class(const struct task *task, const struct locks *locks, const struct lock *lock,
+                        bool waits)
 {
     bool does = false;
     for (size_t place = 0; place < task->held_count; place++) {
