@@ -77,8 +77,8 @@ bool must_tell_module(uint64_t address, struct loaded *module)
     if (_dl_find_object((void *)address, &object) != 0)
         return false;
     const struct link_map *map = object.dlfo_link_map;
-    *module = (struct loaded){(uint64_t)object.dlfo_map_start, (uint64_t)object.dlfo_map_end - 1, map->l_addr, map,
-                              map->l_name && map->l_name[0] ? map->l_name : program_path()};
+    *module = (struct loaded){(uint64_t)object.dlfo_map_start, (uint64_t)object.dlfo_map_end - 1, map->l_addr,
+                              map, map->l_name && map->l_name[0] ? map->l_name : program_path()};
     const struct told *place = told_place_of(module);
     return __atomic_load_n(&place->start, __ATOMIC_ACQUIRE) != module->start ||
            __atomic_load_n(&place->end_and_map, __ATOMIC_ACQUIRE) != end_and_map_of(module);

@@ -90,7 +90,8 @@ void tell_frames(uint64_t lock, const uint64_t *calls, unsigned count)
         return;
     first[1] = (struct unit){walk.count, walk.end};
     memcpy(&first[2], walk.frames, frames * sizeof(struct unit));
-    memcpy(&first[2 + frames], (const void *)walk.frames[0].stack, length / sizeof(struct unit) * sizeof(struct unit));
+    memcpy(&first[2 + frames], (const void *)walk.frames[0].stack,
+           length / sizeof(struct unit) * sizeof(struct unit));
     finish_record(first, RECORD_FRAMES, following, lock);
     __atomic_store_n(place, sum, __ATOMIC_RELEASE);
 }

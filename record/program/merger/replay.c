@@ -40,8 +40,8 @@ static void on_first(uint64_t address, const struct unit *first, unsigned follow
 static struct taking taking_by(enum operation got)
 {
     return (struct taking){
-        .waits = got == RECORD_ACQUIRE || got == RECORD_NESTING || got == RECORD_WRITE || got == RECORD_READ ||
-                 got == RECORD_SHARE,
+        .waits = got == RECORD_ACQUIRE || got == RECORD_NESTING || got == RECORD_WRITE ||
+                 got == RECORD_READ || got == RECORD_SHARE,
         .nests = got == RECORD_NESTING || got == RECORD_TRY_NESTING,
         .is_shared = got == RECORD_READ || got == RECORD_SHARE || got == RECORD_TRY_READ,
         .is_recursive = got == RECORD_READ || got == RECORD_WRITE || got == RECORD_TRY_WRITE,
