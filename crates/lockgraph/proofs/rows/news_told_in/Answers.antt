@@ -3,8 +3,8 @@ use Rattle.std.proofs.Common.{rules}
 use Rattle.lockgraph.proofs.rows.news_told_in.Goals as goal
 
 pub returns-clause-verdict : goal.returns-clause-verdict
-returns-clause-verdict c = record {
-  report = c.in_ok-report.report.items;
-  is = c.in_ok-report.ensures.text;
+returns-clause-verdict c = λ after. record {
+  report = after.in_ok-report.report.items;
+  is = after.in_ok-report.ensures.text;
   verdict_is = search rules;
 }
