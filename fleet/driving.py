@@ -8,7 +8,7 @@ import time
 import traceback
 
 from joining import GROUP, LARGEST_GROUP, MIB, Tree, keep_before
-from nights import STREAM, Found, Night, Wrong, found_below, list_of, names_in, read, shown
+from nights import STREAM, Found, Night, Wrong, found_below, list_of, names_in, read, shown, told
 from reducing import LIMIT, ROOT, Reducer, program, seconds
 from summing import Summary
 
@@ -256,7 +256,7 @@ def drive(words, engine):
     try:
         return Driver(words, engine).run()
     except (Wrong, OSError) as error:
-        engine.say(shown(str(error)))
+        engine.say(told(error))
         return 2
     except Exception:
         # Python would end with 1, which says that violations are new.

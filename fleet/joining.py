@@ -5,7 +5,7 @@ import hashlib
 import os
 import shutil
 
-from nights import REDUCED, Counts, Wrong, is_counted, shown, stamp_of, whole
+from nights import REDUCED, Counts, Wrong, is_counted, shown, stamp_of, told, whole
 from reducing import Failed, Faulty, count_traces, join_streams, put_counts
 
 MIB = 1 << 20
@@ -125,4 +125,5 @@ def keep_before(reducer, night, before):
                 reducer.run(["-"], out, source=source)
             put_counts(path, Counts(count_traces(out.name), 0, stamp_of(trace)))
     except (OSError, Faulty, Failed) as error:
-        raise Wrong(f"{shown(trace)}: {error}") from None
+        at = "" if getattr(error, "filename", None) else f"{shown(trace)}: "
+        raise Wrong(f"{at}{told(error)}") from None

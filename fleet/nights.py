@@ -44,6 +44,14 @@ def shown(name):
     return "".join(it if it.isprintable() else it.encode("unicode_escape").decode() for it in text)
 
 
+def told(error):
+    """What went wrong, as one line: if the system says it, the file and the system's text."""
+    if isinstance(error, OSError) and error.strerror:
+        name = error.filename if isinstance(error.filename, (str, bytes)) else None
+        return f"{shown(name)}: {error.strerror}" if name else error.strerror
+    return shown(str(error))
+
+
 def encoded(name):
     """A name for a file, which tells names of streams apart: no two have the same."""
     name = os.fsencode(name)

@@ -191,10 +191,10 @@ def check_words(room, _count):
     for words, text in (
         ([empty, room.path("n")], "there is no stream"),
         ([streams, os.path.join(streams, "n")], "below that of the streams"),
-        ([room.path("none"), room.path("n")], "No such file"),
+        ([room.path("none"), room.path("n")], f"fleet/night: {room.path('none')}: No such file or directory\n"),
         ([streams, room.path("n"), "--group", "1024"], "between 0 and 1024"),
         ([streams, room.path("n"), "--limit", "0"], "--limit: invalid seconds value"),
-        ([streams, room.path("n"), "--before", room.path("none")], "No such file"),
+        ([streams, room.path("n"), "--before", room.path("none")], ": No such file or directory\n"),
         ([streams, room.path("n"), "--before", room.path("n")], "this is the night itself"),
         ([streams, room.path("n"), "--known", room.path("n", "night.report")], "this is the night itself"),
     ):

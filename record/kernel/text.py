@@ -23,6 +23,9 @@ PERF = re.compile(
     ).fullmatch
 NO_SOFTIRQS = ('the text of `%s`, which does not tell whether softirqs are disabled: record with '
                '`record start` and `record stop`, or give %s')
+# How the files of programs that compress begin.
+PACKED = {b'\xfd7zXZ\0': 'xz', b'\x1f\x8b': 'gzip', b'\x28\xb5\x2f\xfd': 'zstd', b'BZh': 'bzip2'}
+STREAM = re.compile(r'trace [!-~]{1,64}\n').fullmatch
 # The end of one line's columns. Inside another line it shows that bytes between them are missing.
 COLUMNS_INSIDE = re.compile(r'\[\d{3,}\] \S{5} +\d+(?:\.\d+)?: ').search
 LOSS = re.compile(r'CPU:\d+ \[LOST (?:\d+ )?EVENTS\]\n|##### CPU \d+ buffer started ####\n').fullmatch
@@ -71,6 +74,12 @@ def quote(text):
     return ascii(text if len(text) <= 60 else text[:60] + '...')
 
 
+def look_of(data):
+    """What a file is that begins with these bytes, if a program has to decompress it; None if it needn't."""
+    maker = next((it for begin, it in PACKED.items() if data.startswith(begin)), None)
+    return maker and f'it looks like a file that {maker} made: decompress it first'
+
+
 def is_begun(line):
     """Whether a line may be the begin of an event's: a task's name, with blanks before it, as far as its line end."""
     return len(line) <= NAME and line[0] == ' ' and not line.startswith(STACK)
@@ -85,6 +94,8 @@ def fault(line):
     """Why a line is none of a recording's."""
     if not line.strip():
         return 'an empty line'
+    if STREAM(line):
+        return 'it is a stream already'
     if TRACE_CMD(line):
         return NO_SOFTIRQS % ('trace-cmd report', 'what `trace-cmd show` prints after '
                               '`trace-cmd start` and `trace-cmd stop`')

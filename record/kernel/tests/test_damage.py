@@ -1,5 +1,8 @@
 """Texts that can't be read: status 2, a message with the line's number, and nothing written."""
+import bz2
 import glob
+import gzip
+import lzma
 import os
 import subprocess
 import tempfile
@@ -40,7 +43,7 @@ class Refused(unittest.TestCase):
             result = run(text, '--lines', os.path.join(folder, 'map'))
             self.assertEqual(os.listdir(folder), [])
         self.assertEqual((result.status, result.stream), (2, []), result.errors)
-        self.assertIn('convert: line %d: ' % number, result.errors)
+        self.assertRegex(result.errors, 'convert: /.*/file: line %d: ' % number)
         self.assertIn(words, result.errors)
 
     def test_cut_at_any_byte_of_the_last_line(self):
@@ -93,6 +96,26 @@ class Refused(unittest.TestCase):
         for text in PERF.splitlines(keepends=True):
             self.refused(text, 1, 'the text of `perf script`')
             self.refused(HEADER + text, 13, "tracefs' file `trace`")
+
+    def test_a_stream(self):
+        self.refused('trace ab\nacquire t A\n', 1, 'it is a stream already')
+        self.refused('# a comment\ntrace ab\n', 2, 'it is a stream already')
+
+    def test_a_compressed_text(self):
+        # Also one that the program made with no line end in it, and that of an option.
+        zstd = b'\x28\xb5\x2f\xfd\x04\x58'
+        for maker, begin in (('xz', lzma.compress(GOOD.encode())), ('gzip', gzip.compress(GOOD.encode())),
+                             ('bzip2', bz2.compress(GOOD.encode())), ('zstd', zstd)):
+            told = f'it looks like a file that {maker} made: decompress it first\n'
+            with self.subTest(maker=maker), file_with(begin) as name:
+                result = run(begin)
+                self.assertEqual((result.status, result.stream), (2, []))
+                self.assertRegex(result.errors, rf'\Aconvert: /.*/file: {told}\Z')
+                for option in ('--lockdep', '--stats', '--check'):
+                    result = run(GOOD, option, name)
+                    self.assertEqual((result.status, result.stream, result.errors), (2, [], f'convert: {name}: {told}'))
+                end = subprocess.run([CONVERT], input=begin, capture_output=True)
+                self.assertEqual((end.returncode, end.stdout, end.stderr), (2, b'', b'convert: ' + told.encode()))
 
     def test_no_column_of_flags(self):
         self.refused(acquire('a', A).replace('] ..... ', '] '), 1, 'irq-info')

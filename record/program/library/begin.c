@@ -42,7 +42,7 @@ static bool make_life(void)
     struct life *none = NULL;
     if (madvise(new, sizeof *new, MADV_WIPEONFORK) != 0 ||
         !__atomic_compare_exchange_n(&life, &none, new, false, __ATOMIC_ACQ_REL, __ATOMIC_ACQUIRE))
-        munmap(new, sizeof *new);
+        NEXT(munmap)(new, sizeof *new);
     return life != NULL;
 }
 
@@ -108,7 +108,7 @@ static struct process *make_process(void)
         return NULL;
     if (madvise(process, PROCESS_BYTES, MADV_POPULATE_WRITE) == 0)
         return process;
-    munmap(process, PROCESS_BYTES);
+    NEXT(munmap)(process, PROCESS_BYTES);
     return NULL;
 }
 
@@ -147,7 +147,7 @@ static bool start_recording(void)
     }
     describe(process, parent);
     if (parent)
-        munmap(parent, PROCESS_BYTES);
+        NEXT(munmap)(parent, PROCESS_BYTES);
     forget_chunks();
     latest = process;
     life->process = process;
@@ -179,6 +179,7 @@ bool begin(void)
         self.last_number = 0;
         self.thread = (int)syscall(SYS_gettid);
         memset(self.calls, 0, sizeof self.calls);
+        memset(self.first, 0, sizeof self.first);
         self.task = __atomic_add_fetch(&life->tasks, 1, __ATOMIC_RELAXED);
         self.generation = life->generation;
     }

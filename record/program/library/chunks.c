@@ -9,6 +9,7 @@
 #include <pthread.h>
 #include <sys/mman.h>
 
+#include "next.h"
 #include "recorder.h"
 
 #define POOL_PLACES 64
@@ -29,10 +30,10 @@ static struct chunk *map_chunk(struct process *process, uint64_t number)
         end_recording(is_under_valgrind ? ENDED_BY_VALGRIND : ENDED_NO_MEMORY);
         return NULL;
     }
-    munmap(copy, before);
+    NEXT(munmap)(copy, before);
     struct chunk *chunk = (struct chunk *)(copy + before);
     if (madvise(chunk, CHUNK_BYTES, MADV_POPULATE_WRITE) != 0) {
-        munmap(chunk, CHUNK_BYTES);
+        NEXT(munmap)(chunk, CHUNK_BYTES);
         end_recording(ENDED_NO_SPACE);
         return NULL;
     }
@@ -71,7 +72,7 @@ static bool change_chunk(struct chunk *full)
         if (has_key)
             pthread_setspecific(ending, &self);
         if (full && self.inside == 1)
-            munmap(full, CHUNK_BYTES);
+            NEXT(munmap)(full, CHUNK_BYTES);
     }
     errno = error;
     return chunk != NULL;
@@ -112,7 +113,7 @@ static void hand_on(void *ended)
                                            __ATOMIC_RELAXED);
     }
     if (!kept && self.inside == 0)
-        munmap(chunk, CHUNK_BYTES);
+        NEXT(munmap)(chunk, CHUNK_BYTES);
 }
 
 /* Values of later keys than the first 32 take memory, and the program's allocator may be the one that

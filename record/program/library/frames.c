@@ -20,6 +20,7 @@
 enum place_state { PLACE_NONE, PLACE_BEGUN, PLACE_TOLD };
 
 _Static_assert(PLACE_NUMBERS == 1 << 16, "a number that is too large goes on from 0");
+_Static_assert(MOST_CALLS <= MOST_INSIDE, "all calls that are told can be kept");
 
 bool wants_places;
 unsigned wanted_callers;
@@ -123,16 +124,22 @@ static bool is_inner(uint64_t inner, uint64_t outer, const struct rule *rule)
     return rule->to_call != 0 && inner - (outer + (uint64_t)(int64_t)rule->to_call) < MOST_INTO;
 }
 
+static struct way way_from(const struct frame *frame)
+{
+    struct way way = {.frame = frame, .stack = sizeof *frame};
+    way.base = (uint64_t)frame->outer - (uint64_t)frame;
+    way.has_base = way.base <= MOST_BYTES;
+    return way;
+}
+
 /* Finds the calls that led here: those that are a part of the place, and as many callers as are wanted. */
 static void find_calls(struct calls *calls, const struct frame *frame)
 {
-    struct way way = {.frame = frame, .stack = sizeof *frame};
+    struct way way = way_from(frame);
     struct rule own;
     unsigned inner = 0, callers = 0;
     uint64_t at = offsetof(struct frame, address), address = frame->address;
     const struct rule *rule = rule_of(address, &own);
-    way.base = (uint64_t)frame->outer - (uint64_t)frame;
-    way.has_base = way.base <= MOST_BYTES;
     calls->count = 0;
     for (;;) {
         struct level *level = &calls->levels[calls->count++];
@@ -149,6 +156,41 @@ static void find_calls(struct calls *calls, const struct frame *frame)
             return;
         address = outer;
     }
+}
+
+/* Keeps calls that led here, to know them again, unless one of them can't be found where the one inside says. */
+static void keep_calls(struct calls *calls, const struct frame *frame, const uint64_t *places, unsigned count)
+{
+    struct way way = way_from(frame);
+    struct rule own;
+    uint64_t at = offsetof(struct frame, address);
+    calls->count = 0;
+    for (unsigned number = 0; number < count; number++) {
+        struct level *level = &calls->levels[number];
+        if (at == 0 || word_at(frame, at) != places[number])
+            return;
+        *level = (struct level){.address = places[number], .at = (uint16_t)at};
+        at = step(&way, rule_of(places[number], &own), level);
+    }
+    calls->count = (uint16_t)count;
+}
+
+/* Gives the return addresses of the calls that led into the library, the innermost first. Mostly a thread comes through
+   the same ones again, and to see that costs far less than to unwind. What a signal handler does in the midst of
+   another call of the recorder leaves the thread's calls as they are. */
+unsigned callers_of_frame(const struct frame *frame, uint64_t places[MOST_CALLS])
+{
+    if (!frame || self.inside != 1)
+        return callers(places, MOST_CALLS);
+    struct calls *calls = &self.first[(frame->address ^ (uint64_t)frame >> 4) % FIRST_KEPT];
+    if (!are_same(calls, frame)) {
+        unsigned count = callers(places, MOST_CALLS);
+        keep_calls(calls, frame, places, count);
+        return count;
+    }
+    for (unsigned number = 0; number < calls->count; number++)
+        places[number] = calls->levels[number].address;
+    return calls->count;
 }
 
 /* Finds the number of the place by all calls at once, or else, the first time, by each of them in turn. */

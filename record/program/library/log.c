@@ -2,6 +2,7 @@
 #define _GNU_SOURCE
 #include <string.h>
 
+#include "marks.h"
 #include "recorder.h"
 
 /* The locks that were told: an address whose place here holds another one is told again. */
@@ -40,11 +41,17 @@ static void leave(void)
     self.inside--;
 }
 
-static void finish_at(struct unit *first, enum operation operation, unsigned following, unsigned place,
-                      uint64_t value)
+static uint64_t draw_number(void)
 {
     uint64_t number = __atomic_fetch_add(&life->numbers, 1, __ATOMIC_ACQ_REL);
     self.last_number = number + 1;
+    return number;
+}
+
+static void finish_at(struct unit *first, enum operation operation, unsigned following, unsigned place,
+                      uint64_t value)
+{
+    uint64_t number = draw_number();
     first->value = value;
     __atomic_store_n(&first->head, HEAD_OF(operation, following, place, number), __ATOMIC_RELEASE);
 }
@@ -76,14 +83,14 @@ static void write_module(uint64_t address)
 
 /* Writes a record on a lock with the calls that led to it. A lock of a module, which wasn't
    initialised by a call, is named by itself. */
-static void write_place(enum operation operation, uint64_t lock, unsigned place)
+static void write_place(enum operation operation, uint64_t lock, unsigned place, const struct frame *frame)
 {
     uint64_t places[MOST_CALLS + 1] = {0};
     unsigned count = 0;
     if (operation != RECORD_INIT && is_in_module(lock))
         write_module(lock);
     else
-        count = callers(places, MOST_CALLS);
+        count = callers_of_frame(frame, places);
     for (unsigned caller = 0; caller < count; caller++)
         write_module(places[caller]);
     if (operation != RECORD_INIT && count)
@@ -122,12 +129,26 @@ void record(enum operation operation, const void *lock)
     leave();
 }
 
-void record_init(const void *lock)
+/* Notes that a lock was told. */
+static void know(uint64_t lock)
+{
+    __atomic_store_n(place_of(lock), lock, __ATOMIC_RELAXED);
+    mark(lock);
+}
+
+/* The lock will be told again where it is taken next, or another one at its address. */
+static void forget(uint64_t lock)
+{
+    uint64_t told = lock;
+    __atomic_compare_exchange_n(place_of(lock), &told, 0, false, __ATOMIC_RELAXED, __ATOMIC_RELAXED);
+}
+
+void record_init(const void *lock, const struct frame *frame)
 {
     if (!enter())
         return;
-    write_place(RECORD_INIT, (uint64_t)lock, 0);
-    __atomic_store_n(place_of((uint64_t)lock), (uint64_t)lock, __ATOMIC_RELAXED);
+    write_place(RECORD_INIT, (uint64_t)lock, 0, frame);
+    know((uint64_t)lock);
     leave();
 }
 
@@ -144,9 +165,50 @@ void record_destroy(const void *lock, const struct frame *frame)
 {
     if (!enter())
         return;
-    uint64_t told = (uint64_t)lock;
-    __atomic_compare_exchange_n(place_of(told), &told, 0, false, __ATOMIC_RELAXED, __ATOMIC_RELAXED);
+    forget((uint64_t)lock);
+    remove_mark((uint64_t)lock);
     write_one(RECORD_DESTROY, (uint64_t)lock, wants_places ? place_of_frame(frame) : 0);
+    leave();
+}
+
+/* The memory up to `end` is about to be given back. */
+void record_freed(uint64_t start, uint64_t end, const struct frame *frame)
+{
+    if (!enter())
+        return;
+    unsigned place = wants_places ? place_of_frame(frame) : 0;
+    for (uint64_t lock = start; (lock = next_mark(lock, end)); lock += MARK_BYTES) {
+        forget(lock);
+        remove_mark(lock);
+        write_one(RECORD_DESTROY, lock, place);
+    }
+    leave();
+}
+
+/* Some of the memory up to `end` may be given back by a call. Draws the number of the record that then says what was.
+   The marks stay: only the call tells which locks do, and then others may have set some. */
+bool expect_freed(uint64_t start, uint64_t end, uint64_t *number)
+{
+    if (!enter())
+        return false;
+    for (uint64_t lock = start; (lock = next_mark(lock, end)); lock += MARK_BYTES)
+        forget(lock);
+    *number = draw_number();
+    leave();
+    return true;
+}
+
+void record_expected(uint64_t number, uint64_t start, uint64_t end, const struct frame *frame)
+{
+    if (!enter())
+        return;
+    unsigned place = wants_places ? place_of_frame(frame) : 0;
+    struct unit *first = take_units(2);
+    if (first) {
+        first[0].value = start;
+        first[1].head = start < end ? end - start : 0;
+        __atomic_store_n(&first->head, HEAD_OF(RECORD_FREED, 1, place, number), __ATOMIC_RELEASE);
+    }
     leave();
 }
 
@@ -154,10 +216,9 @@ void record_got(enum operation operation, const void *lock, const struct frame *
 {
     if (operation == RECORD_NOTHING || !enter())
         return;
-    uint64_t *place = place_of((uint64_t)lock);
-    if (__atomic_load_n(place, __ATOMIC_RELAXED) != (uint64_t)lock) {
-        write_place(RECORD_FIRST, (uint64_t)lock, 0);
-        __atomic_store_n(place, (uint64_t)lock, __ATOMIC_RELAXED);
+    if (__atomic_load_n(place_of((uint64_t)lock), __ATOMIC_RELAXED) != (uint64_t)lock) {
+        write_place(RECORD_FIRST, (uint64_t)lock, 0, frame);
+        know((uint64_t)lock);
     }
     write_one(operation, (uint64_t)lock, wants_places ? place_of_frame(frame) : 0);
     leave();
@@ -174,6 +235,6 @@ void record_wait(enum operation wanted, const void *lock, const struct frame *fr
     if (__atomic_load_n(place_of((uint64_t)lock), __ATOMIC_RELAXED) == (uint64_t)lock)
         write_one(operation, (uint64_t)lock, place);
     else
-        write_place(operation, (uint64_t)lock, place);
+        write_place(operation, (uint64_t)lock, place, frame);
     leave();
 }

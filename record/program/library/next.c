@@ -3,6 +3,7 @@
 #include "next.h"
 
 #include <dlfcn.h>
+#include <errno.h>
 
 #include "recorder.h"
 
@@ -12,7 +13,15 @@ static const char *const names[] = {
 #undef NAME
 };
 
-static void *found[sizeof names / sizeof names[0]];
+#define CALL_COUNT (sizeof names / sizeof names[0])
+
+void *next_found[CALL_COUNT];
+
+/* What stands for `free` while that is looked up itself: the little that is freed then stays. */
+static void keep(void *memory)
+{
+    (void)memory;
+}
 
 /* On x86-64 libc has an old form of some waits on conditions, for programs from before 2003, under
    the same name. A look-up that fails would leave an error for the program to find, and none does:
@@ -26,20 +35,23 @@ static void *look_up(enum next which)
     return dlsym(RTLD_NEXT, names[which]);
 }
 
-/* Locks are taken before the library's own constructor runs, so each call is looked up where it is
-   first wanted. Two threads that do so at once find the same. */
-void *next_call(enum next which)
+/* Two threads that look a call up at once find the same. A look-up frees what is left of an earlier one that failed. */
+void *look_up_next(enum next which)
 {
-    void *call = __atomic_load_n(&found[which], __ATOMIC_RELAXED);
-    if (!call) {
-        call = look_up(which);
-        __atomic_store_n(&found[which], call, __ATOMIC_RELAXED);
-    }
+    if (which == NEXT_free && self.looks_up)
+        return (void *)keep;
+    int error = errno;
+    bool did_look_up = self.looks_up;
+    self.looks_up = true;
+    void *call = look_up(which);
+    self.looks_up = did_look_up;
+    __atomic_store_n(&next_found[which], call, __ATOMIC_RELAXED);
+    errno = error;
     return call;
 }
 
 void find_all_next(void)
 {
-    for (unsigned which = 0; which < sizeof names / sizeof names[0]; which++)
+    for (unsigned which = 0; which < CALL_COUNT; which++)
         next_call((enum next)which);
 }

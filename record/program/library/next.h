@@ -37,7 +37,11 @@
     each(mtx_timedlock)             \
     each(mtx_unlock)                \
     each(cnd_wait)                  \
-    each(cnd_timedwait)
+    each(cnd_timedwait)             \
+    each(free)                      \
+    each(realloc)                   \
+    each(malloc_usable_size)        \
+    each(munmap)
 /* clang-format on */
 
 enum next {
@@ -46,7 +50,16 @@ enum next {
 #undef NUMBER
 };
 
-void *next_call(enum next which);
+extern void *next_found[];
+void *look_up_next(enum next which);
+
+/* Locks are taken and memory is freed before the library's own constructor runs, so each call is looked up where it is
+   first wanted. */
+static inline void *next_call(enum next which)
+{
+    void *call = __atomic_load_n(&next_found[which], __ATOMIC_RELAXED);
+    return call ? call : look_up_next(which);
+}
 
 #define NEXT(call) ((__typeof__(&call))next_call(NEXT_##call))
 

@@ -3,6 +3,7 @@
 #define RECORDER_H
 
 #include <stdbool.h>
+#include <stddef.h>
 #include <stdint.h>
 
 #include "recording.h"
@@ -46,6 +47,7 @@ struct frame {
 enum state { STATE_NEW, STATE_BEGINNING, STATE_RECORDING, STATE_OFF };
 
 #define CALLS_KEPT 8
+#define FIRST_KEPT 4
 
 /* A call that led to an event: the place of it, where that stands, and, if the frame goes by the base register, what
    that was and where that stands. All but the place is in bytes from the innermost frame. */
@@ -84,7 +86,9 @@ struct self {
     int thread; /* the kernel's number of it */
     struct chunk *chunk;
     unsigned inside;
+    bool looks_up; /* what libc has of a call */
     struct calls calls[CALLS_KEPT];
+    struct calls first[FIRST_KEPT]; /* up to MOST_CALLS that led to a lock which was told */
 };
 
 /* A module: its first and last address, where it was loaded, what the loader has of it, and its path. */
@@ -109,11 +113,19 @@ struct unit *take_units(unsigned count);
 
 /* log.c */
 void record(enum operation operation, const void *lock);
-void record_init(const void *lock);
+void record_init(const void *lock, const struct frame *frame);
 void record_at(enum operation operation, const void *lock, const struct frame *frame);
 void record_destroy(const void *lock, const struct frame *frame);
 void record_got(enum operation operation, const void *lock, const struct frame *frame);
 void record_wait(enum operation wanted, const void *lock, const struct frame *frame);
+
+/* log.c, for memory that is given back */
+void record_freed(uint64_t start, uint64_t end, const struct frame *frame);
+bool expect_freed(uint64_t start, uint64_t end, uint64_t *number);
+void record_expected(uint64_t number, uint64_t start, uint64_t end, const struct frame *frame);
+
+/* freed.c */
+bool can_tell_sizes(void);
 
 /* rwlocks.c */
 extern bool leaves_readers_out;
@@ -132,6 +144,7 @@ const struct rule *rule_of(uint64_t address, struct rule *own);
 extern bool wants_places;
 extern unsigned wanted_callers;
 unsigned place_of_frame(const struct frame *frame);
+unsigned callers_of_frame(const struct frame *frame, uint64_t places[MOST_CALLS]);
 
 /* log.c, for the places */
 void tell_place(uint64_t address, struct told_place place);

@@ -53,6 +53,9 @@ enum operation {
     /* Of a mutex that its holder may take again: */
     RECORD_NESTING,     /* as RECORD_ACQUIRE */
     RECORD_TRY_NESTING, /* as RECORD_TRY */
+    /* Of memory: */
+    RECORD_FREED, /* [its start] was given back, and no lock in it is one any more; its length follows. Its number was
+                     drawn before the call that did so */
 };
 
 /* In `head`: the operation (5 bits), the number of units that follow (8), the place (16), which is 0

@@ -14,7 +14,7 @@
     {                                                        \
         int answer = NEXT(call)(lock, options);              \
         if (answer == 0)                                     \
-            record_init((const void *)lock);                 \
+            record_init((const void *)lock, HERE);           \
         return answer;                                       \
     }
 

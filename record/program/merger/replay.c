@@ -113,16 +113,33 @@ static void on_release(enum operation operation, uint32_t task, const struct uni
     end_waits_from(task, held_by(task, &held) + 1);
 }
 
+static void note_destroyed(const struct lock *lock, const struct unit *first)
+{
+    if (lock->holder || lock->readers)
+        note_misuse(MISUSE_DESTROYED, lock->class, NULL, place_numbered(HEAD_PLACE(first->head)));
+}
+
 /* A mutex that is held can't be destroyed; other locks, and those of C11, are all the same. */
 static void on_destroy(bool is_kept, const struct unit *first)
 {
     struct lock *lock = find_lock(&locks, first->value, false);
     if (!lock)
         return;
-    if (lock->holder || lock->readers)
-        note_misuse(MISUSE_DESTROYED, lock->class, NULL, place_numbered(HEAD_PLACE(first->head)));
+    note_destroyed(lock, first);
     if (!is_kept)
         begin_lock(lock, NULL);
+}
+
+/* Memory was given back: its locks are destroyed, in the order in which they were met. */
+static void on_freed(const struct unit *first)
+{
+    for (size_t number = 0; number < locks.count; number++) {
+        struct lock *lock = &locks.all[number];
+        if (!lock->class || lock->address - first->value >= first[1].head)
+            continue;
+        note_destroyed(lock, first);
+        begin_lock(lock, NULL);
+    }
 }
 
 /* Takes what a record tells of modules, of places and of where locks begin. Answers whether it tells that. */
@@ -167,6 +184,10 @@ static void step(const struct unit *first, uint32_t task)
     switch (operation) {
     case RECORD_DESTROY:
     case RECORD_KEPT: on_destroy(operation == RECORD_KEPT, first); break;
+    case RECORD_FREED:
+        if (HEAD_FOLLOWING(first->head))
+            on_freed(first);
+        break;
     case RECORD_ACQUIRE:
     case RECORD_TRY:
     case RECORD_WRITE:

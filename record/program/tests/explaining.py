@@ -181,8 +181,8 @@ def check_explain_nameless(directory):
 
 
 def check_explain_ends(directory):
-    """A name of which there is no more is there once, a file that isn't there is named, without a report
-    there is the usage, and who reads may stop early."""
+    """A name of which there is no more is there once, a file that isn't there or is no report is named, without a
+    report there is the usage, and who reads may stop early."""
     answer = call([EXPLAIN])
     must((answer.returncode, answer.stdout, answer.stderr) ==
          (2, "", "record/program/explain: usage: record/program/explain REPORT [STREAM ..]\n"),
@@ -199,6 +199,14 @@ def check_explain_ends(directory):
     must((answer.returncode, answer.stderr) ==
          (2, f"record/program/explain: {none}: No such file or directory\n"),
          f"explain of no file: {answer.returncode} {answer.stderr}")
+    stream = os.path.join(directory, "kernel.trace")
+    with open(stream, "w", encoding="ascii") as lines:
+        lines.write("trace k\nacquire t &a->lock\nacquire t &b\n")
+    for path in (stream, os.devnull):
+        answer = call([EXPLAIN, path])
+        must((answer.returncode, answer.stdout, answer.stderr) ==
+             (2, "", f"record/program/explain: {path}: no report of lockcheck\n"),
+             f"explain of a stream: {answer.returncode} {answer.stdout} {answer.stderr}")
     reader, writer = os.pipe()
     os.close(reader)
     answer = subprocess.run([EXPLAIN, report, report], stdout=writer, stderr=subprocess.PIPE,

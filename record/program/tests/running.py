@@ -84,6 +84,118 @@ def check_sanitizers(directory):
             must(planted.matches(report), f"{name}: {report}")
 
 
+# Memory that was freed is given again if it is as long, the latest first. What is left of a look-up that fails is freed
+# by the next one.
+ALLOCATOR = """\
+#define _GNU_SOURCE
+#include <dlfcn.h>
+#include <errno.h>
+#include <stddef.h>
+#include <string.h>
+#include <sys/mman.h>
+
+#define BYTES (1 << 24)
+
+struct block {
+    size_t size;
+    struct block *next;
+};
+
+static char *all;
+static size_t used;
+static struct block *freed;
+static char is_busy;
+
+void *malloc(size_t size)
+{
+    size = (size + 15) / 16 * 16;
+    if (size > BYTES / 2) {
+        errno = ENOMEM;
+        return NULL;
+    }
+    while (__atomic_test_and_set(&is_busy, __ATOMIC_ACQUIRE))
+        ;
+    if (!all)
+        all = mmap(NULL, BYTES, PROT_READ | PROT_WRITE, MAP_PRIVATE | MAP_ANONYMOUS, -1, 0);
+    struct block **place = &freed, *block = (struct block *)&all[used];
+    while (*place && (*place)->size != size)
+        place = &(*place)->next;
+    if (*place) {
+        block = *place;
+        *place = block->next;
+    } else {
+        used += sizeof *block + size;
+        block->size = size;
+    }
+    block->next = (struct block *)0x1002; /* libc would take it for a length */
+    __atomic_clear(&is_busy, __ATOMIC_RELEASE);
+    return block + 1;
+}
+
+void free(void *memory)
+{
+    struct block *block = (struct block *)memory - 1;
+    if (!memory)
+        return;
+    while (__atomic_test_and_set(&is_busy, __ATOMIC_ACQUIRE))
+        ;
+    block->next = freed;
+    freed = block;
+    __atomic_clear(&is_busy, __ATOMIC_RELEASE);
+}
+
+void *calloc(size_t count, size_t size)
+{
+    void *made = malloc(count * size);
+    return made ? memset(made, 0, count * size) : NULL;
+}
+
+void *realloc(void *memory, size_t size)
+{
+    size_t old = memory ? ((struct block *)memory - 1)->size : 0;
+    void *made = malloc(size);
+    if (made && memory) {
+        memcpy(made, memory, old < size ? old : size);
+        free(memory);
+    }
+    return made;
+}
+
+#ifdef TELLS_SIZES
+size_t malloc_usable_size(void *memory)
+{
+    return memory ? ((struct block *)memory - 1)->size : 0;
+}
+#endif
+
+__attribute__((constructor)) static void begin(void)
+{
+    dlsym(RTLD_DEFAULT, "nothing has this name");
+    free(malloc(1));
+}
+"""
+
+
+def check_allocators(directory):
+    """A program with an allocator of its own is recorded by that. Where it tells no sizes, what is freed isn't seen."""
+    planted = Planted("freed.cc")
+    for name, flags, is_seen in (("sizes", ["-DTELLS_SIZES"], True), ("no-sizes", [], False)):
+        folder = os.path.join(directory, f"by-allocator-{name}")
+        library, program = os.path.join(folder, "liballocator.so"), os.path.join(folder, "freed")
+        os.mkdir(folder)
+        built = call([*COMPILERS[".c"], "-O1", "-fno-builtin", "-fPIC", "-shared", *flags, "-x", "c", "-o", library, "-"],
+                     input=ALLOCATOR)
+        must(built.returncode == 0, f"allocator: {built.stderr}")
+        planted.compile(["-O0", "-Wl,--no-as-needed", library, f"-Wl,-rpath,{folder}"], program)
+        must(call([program]).returncode == 0, f"{name}: the program fails alone")
+        answer = record(program + ".trace", "freed", [program])
+        said(answer)
+        must((answer.returncode, answer.stdout, answer.stderr) == (0, "", ""), f"{name}: {answer}")
+        with open(program + ".trace", encoding="ascii") as lines:
+            report = lockcheck(lines.read()).stdout
+        must(bool(planted.matches(report)) == is_seen and " refused 0 " in report, f"{name}: {report}")
+
+
 def check_no_space(directory):
     """Where a file can't grow the recording ends, `run` says so, and the program goes on."""
     stream = os.path.join(directory, "space.trace")

@@ -13,7 +13,7 @@ SANITIZERS = ["-fsanitize=address,undefined", "-fno-sanitize-recover=all"]
 LIMITS = {"ASAN_OPTIONS": "exitcode=99:detect_leaks=0:hard_rss_limit_mb=1000", "UBSAN_OPTIONS": "exitcode=99"}
 CHUNK, UNIT, PROCESS_NUMBERS = 128 * 1024, 16, 10  # as library/recording.h has them
 WORST = (2**32 - 1, 2**64 - 1)
-DAMAGED = ("fields.c", "inherits.c", "misuse.c", "readers-forms.c")
+DAMAGED = ("fields.c", "inherits.c", "misuse.c", "readers-forms.c", "resized.c")
 DAMAGED_PROGRAMS = ("fields.c", "members.cc")
 RANDOM_DAMAGES = 15
 
