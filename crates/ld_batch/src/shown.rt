@@ -55,7 +55,7 @@ impl<'b, 'a> Model for Shown<'b, 'a> {
 
 impl<'b, 'a> Shown<'b, 'a> {
     /// What these traces show, behind which there are those. The classes are of both, so many of them of those behind.
-    /// The numbers are those by which guesses are kept of the classes, in their order.
+    /// The numbers are those by which hints are kept of the classes, in their order.
     pub fn new(
         behind: &'b [Listed<'a>],
         traces: &'b [Listed<'a>],
@@ -152,12 +152,12 @@ impl<'b, 'a> Shown<'b, 'a> {
         self.usage
     }
 
-    /// The numbers by which guesses of the classes are kept, in the order of the classes. Takes no memory.
+    /// The numbers by which hints of the classes are kept, in the order of the classes. Takes no memory.
     pub fn class_numbers(&self) -> &'b [u32] {
         self.class_numbers
     }
 
-    /// The number by which guesses of the class at this place are kept. Takes no memory.
+    /// The number by which hints of the class at this place are kept. Takes no memory.
     pub fn class_number(&self, place: u32) -> u32 {
         number_at(self.class_numbers, place as usize)
     }

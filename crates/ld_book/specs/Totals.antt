@@ -6,7 +6,7 @@ use Rattle.ld_rules.specs.declared.outcome.Outcome.{Outcome}
 use Rattle.ld_rules.specs.declared.outcome.Outcome.TheVariants.{Read, Refused}
 use Rattle.ld_facts.specs.Outcome.{outcome}
 use Rattle.ld_facts.specs.Union.{union_classes, union_dependencies}
-use Rattle.ld_book.specs.declared.totals.Totals.{Totals}
+use Rattle.ld_book.specs.declared.listing.Totals.{Totals}
 
 abbrev pub is_refused : Outcome → Bool
 is_refused (Read count) = false

@@ -6,7 +6,7 @@ ghost use Rattle.ld_class.specs.Names.{AreDistinct, place_of, plain_class};
 ghost use Rattle.ld_facts.specs.Union.{dependency_witness, union_classes, use_witness};
 ghost use Rattle.ld_facts.specs.Usage.{Use};
 ghost use Rattle.ld_union.specs.Alarms.{AreExact, plain_alarms};
-ghost use Rattle.ld_union.specs.Findings.{AreFindings, plain_findings};
+ghost use Rattle.ld_union.specs.Findings.{AreByState, AreFindings, plain_findings};
 ghost use Rattle.ld_batch.specs.Batch.{AreOutcomes, sources_of};
 ghost use Rattle.ld_book.specs.Book.{is_any_listed, is_listed};
 ghost use Rattle.ld_book.specs.Dependencies.{AreDependencies, usage_of_class};
@@ -15,13 +15,12 @@ ghost use Rattle.ld_book.specs.Totals.{totals};
 ghost use Rattle.ld_union.specs.declared.dependencies.Witnessed.{Witnessed};
 ghost use Rattle.ld_union.specs.Usage.{usage_row};
 
-use crate::listing::Listing;
-use crate::totals::Totals;
+use crate::listing::{Listing, Totals};
 use ld_batch::Shown;
 use ld_class::{ClassName, Classes};
-use ld_facts::{Batch, Facts, Guesses, Listed, Series, Witness};
+use ld_facts::{Batch, Facts, Hints, Listed, Series, Witness};
 use ld_graph::Graph;
-use ld_union::{Alarms, Findings, Found, News, Union, UsageRow, Witnessed, findings_of};
+use ld_union::{Alarms, Delta, Findings, Found, Union, UsageRow, Witnessed, findings_of};
 use std::alloc::{AllocError, Global};
 use std::marker::Model;
 
@@ -62,7 +61,7 @@ pub struct Book<'a> {
     /// A violation of each kind that the traces show.
     found: Found,
     /// What was new in the batch that was added last. It keeps its memory for the next one.
-    news: News,
+    delta: Delta,
     alloc: Global,
 }
 
@@ -92,7 +91,7 @@ impl<'a> Book<'a> {
             listing: Listing::new(alloc),
             union: Union::new(alloc),
             found: Found::new(),
-            news: News::new(alloc),
+            delta: Delta::new(alloc),
             alloc,
         }
     }
@@ -122,7 +121,7 @@ impl<'a> Book<'a> {
     }
 
     /// Lists the traces of a batch, and adds what they show. A batch without traces changes nothing. The batch
-    /// stays as it is, but for its guesses, of which no clause speaks: to use its memory for further traces,
+    /// stays as it is, but for its hints, of which no clause speaks: to use its memory for further traces,
     /// clear it.
     ///
     /// # Errors
@@ -138,9 +137,9 @@ impl<'a> Book<'a> {
         ensures memory { is_any_listed self.old batch.old.sources ≡ false
             → OnErr result (result ≡ Err AddRefusal.Memory) }
     {
-        let mut guesses = batch.swap_guesses(Guesses::new(self.alloc));
-        let added = self.add_shown(&batch.shown(), &mut guesses);
-        batch.swap_guesses(guesses);
+        let mut hints = batch.swap_hints(Hints::new(self.alloc));
+        let added = self.add_shown(&batch.shown(), &mut hints);
+        batch.swap_hints(hints);
         added
     }
 
@@ -151,11 +150,7 @@ impl<'a> Book<'a> {
     ///
     /// The book is as before, but for spare memory: `Twice` where a trace of one of the numbers of what is to
     /// be added is listed, which is tested first, and `Memory` where a growth of memory was refused.
-    pub fn add_shown(
-        &mut self,
-        batch: &Shown<'_, 'a>,
-        guesses: &mut Guesses,
-    ) -> Result<(), AddRefusal>
+    pub fn add_shown(&mut self, batch: &Shown<'_, 'a>, hints: &mut Hints) -> Result<(), AddRefusal>
         requires { All (Contains self.old) batch.now.behind }
         ensures ok { OnOk result (self.new ≡ self.old ++ batch.now.sources) }
         ensures err { OnErr result (self.new ≡ self.old) }
@@ -167,14 +162,14 @@ impl<'a> Book<'a> {
         if self.listing.has_any(batch.traces()) {
             return Err(AddRefusal::Twice);
         }
-        match self.enter(batch, guesses) {
+        match self.enter(batch, hints) {
             Ok(()) => Ok(()),
             Err(AllocError) => Err(AddRefusal::Memory),
         }
     }
 
     /// Lists the traces of a series that weren't handed on, and adds what they show, as `add_shown` does. The series
-    /// stays as it is, but for its guesses.
+    /// stays as it is, but for its hints.
     ///
     /// # Errors
     ///
@@ -189,9 +184,9 @@ impl<'a> Book<'a> {
         ensures memory { is_any_listed self.old series.old.sources ≡ false
             → OnErr result (result ≡ Err AddRefusal.Memory) }
     {
-        let mut guesses = series.swap_guesses(Guesses::new(self.alloc));
-        let added = self.add_shown(&series.shown(), &mut guesses);
-        series.swap_guesses(guesses);
+        let mut hints = series.swap_hints(Hints::new(self.alloc));
+        let added = self.add_shown(&series.shown(), &mut hints);
+        series.swap_hints(hints);
         added
     }
 
@@ -228,7 +223,7 @@ impl<'a> Book<'a> {
         ensures err { OnErr result (self.new ≡ self.old) }
     {
         let batch = Batch::of(self.alloc, facts)?;
-        let entered = self.enter(&batch.shown(), &mut Guesses::new(self.alloc));
+        let entered = self.enter(&batch.shown(), &mut Hints::new(self.alloc));
         drop(batch);
         entered
     }
@@ -237,7 +232,7 @@ impl<'a> Book<'a> {
     /// it are listed.
     ///
     /// `AllocError` where a growth of memory was refused. Nothing has changed then but spare memory.
-    fn enter(&mut self, batch: &Shown<'_, 'a>, guesses: &mut Guesses) -> Result<(), AllocError>
+    fn enter(&mut self, batch: &Shown<'_, 'a>, hints: &mut Hints) -> Result<(), AllocError>
         requires fresh { is_any_listed self.old batch.now.sources ≡ false }
         requires behind { All (Contains self.old) batch.now.behind }
         ensures ok { OnOk result (self.new ≡ self.old ++ batch.now.sources) }
@@ -245,9 +240,9 @@ impl<'a> Book<'a> {
     {
         let traces = batch.traces();
         self.listing.room(traces.len())?;
-        self.union.add(batch, guesses, &mut self.news)?;
+        self.union.add(batch, hints, &mut self.delta)?;
         // From here on nothing is refused.
-        self.found.note(&self.union, &self.news);
+        self.found.note(&self.union, &self.delta);
         self.listing.add_all(traces);
         Ok(())
     }
@@ -291,7 +286,8 @@ impl<'a> Book<'a> {
     ///
     /// `AllocError` where a growth of memory was refused.
     pub fn findings(&self, alloc: Global) -> Result<Findings<'_, 'a>, AllocError>
-        ensures { IfOk result (λ findings. AreFindings self.now (plain_findings findings)) }
+        ensures rows { IfOk result (λ findings. AreFindings self.now (plain_findings findings)) }
+        ensures states { IfOk result (λ findings. AreByState findings.forbidden) }
     {
         findings_of(alloc, &self.union, &self.found)
     }

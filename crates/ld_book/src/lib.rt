@@ -3,7 +3,6 @@
 
 mod book;
 mod listing;
-mod totals;
 mod traces;
 
 pub use book::{AddRefusal, BatchRefusal, Book, Refusal};
@@ -11,7 +10,8 @@ pub use ld_class::{ClassName, Classes};
 pub use ld_facts::{Batch, Series, Witness};
 pub use ld_graph::{Edge, Graph};
 pub use ld_union::{
-    Alarms, ConflictRow, CycleRow, Findings, ForbiddenRow, Rows, UsageRow, Walk, Witnessed,
+    Alarms, ConflictRow, CycleRow, Findings, ForbiddenRow, ForbiddenRows, Names, Rows, UsageRow,
+    Walk, Witnessed,
 };
-pub use totals::Totals;
+pub use listing::Totals;
 pub use traces::Traces;

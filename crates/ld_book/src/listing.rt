@@ -1,16 +1,14 @@
 //! The traces that a book lists, with their numbers and their sums.
-ghost use Rattle.std.specs.Prelude.{◌≡◌, ◌≢◌, ◌+◌, ◌<◌, ◌≤◌, ◌++◌, ◌∷◌, [], false, length};
-ghost use Rattle.std.specs.Prelude.{All, AllPairs, OnOk};
+ghost use Rattle.std.specs.Prelude.{◌≡◌, ◌≢◌, ◌+◌, ◌<◌, ◌≤◌, ◌++◌, ◌∷◌, [], false, length, All, AllPairs, OnOk, if◌then◌else◌};
 ghost use Rattle.std.specs.List.{list_any};
 ghost use Rattle.ld_trace.specs.declared.source.TheConstants.{MOST_TRACES};
 ghost use Rattle.ld_trace.specs.Sources.{Fits, plain};
 ghost use Rattle.ld_facts.specs.Outcome.{outcome};
 ghost use Rattle.ld_batch.specs.Batch.{AreOutcomes, sources_of};
 ghost use Rattle.ld_book.specs.Book.{is_any_listed, is_listed};
-ghost use Rattle.ld_book.specs.Totals.{event_count, refused_count};
+ghost use Rattle.ld_book.specs.Totals.{event_count, refused_count, events_read, is_refused};
 
-use crate::totals::{events_of, refused_of};
-use ld_facts::Listed;
+use ld_facts::{Listed, Outcome};
 use ld_trace::MOST_TRACES;
 use std::alloc::{AllocError, Global};
 use std::marker::Model;
@@ -138,5 +136,40 @@ impl<'a> Listing<'a> {
         ensures { result ≡ refused_count self.now.sources }
     {
         self.refused
+    }
+}
+
+/// How much some traces are and show.
+#[derive(Clone, Copy, Debug, PartialEq, Eq)]
+pub struct Totals {
+    /// How many traces there are.
+    pub traces: u64,
+    /// How many of them are refused.
+    pub refused: u64,
+    /// How many events those have that are read.
+    pub events: u64,
+    /// How many classes these acquire, each counted once.
+    pub classes: u64,
+    /// How many dependencies these show, each counted once.
+    pub dependencies: u64,
+}
+
+/// How many refused traces a trace with this outcome counts for: one or none.
+pub(crate) fn refused_of(outcome: Outcome) -> u64
+    ensures { result ≡ (if is_refused outcome then 1 else 0) }
+{
+    match outcome {
+        Outcome::Read { .. } => 0,
+        Outcome::Refused { .. } => 1,
+    }
+}
+
+/// How many events a trace with this outcome counts for: all where it is read, or none.
+pub(crate) fn events_of(outcome: Outcome) -> u64
+    ensures { result ≡ events_read outcome }
+{
+    match outcome {
+        Outcome::Read { events } => events,
+        Outcome::Refused { .. } => 0,
     }
 }

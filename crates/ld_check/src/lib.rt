@@ -4,12 +4,10 @@
 
 mod checked;
 mod reading;
-mod report;
 mod running;
 mod runs;
 
-pub use checked::{CheckFault, Checked, MOST_WORKERS, check};
+pub use checked::{CheckFault, Checked, MOST_WORKERS, Report, check, report_of};
 pub use ld_report::{Book, Verdict, report as report_in, verdict_of};
 pub use ld_work::NoGate;
-pub use report::{Report, report_of};
 pub use runs::{RunFault, run};

@@ -8,9 +8,8 @@ ghost use Rattle.ld_report.specs.Report.{IsReport, SaysClean};
 ghost use Rattle.ld_report.specs.Verdict.{VerdictIs};
 ghost use Rattle.ld_check.specs.Run.{Answers, Refuses};
 
-use crate::checked::{CheckFault, MOST_WORKERS};
+use crate::checked::{CheckFault, MOST_WORKERS, Report, report_of, report_on};
 use crate::reading::read_stream;
-use crate::report::{Report, report_of, report_on};
 use crate::runs::RunFault;
 use ld_io::{Input, MOST_READ};
 use ld_pieces::Pieces;

@@ -2,7 +2,7 @@
 use Rattle.std.proofs.Common.{◌≡◌, List, map, sym, ◌∙◌}
 use Rattle.indexmap.specs.IndexSet.{insert_key}
 use Rattle.std.specs.List.{IsDistinct, list_any, position, position_or_len}
-use Rattle.ld_class.specs.declared.class_name.ClassName.{ClassName}
+use Rattle.ld_class.specs.declared.names.ClassName.{ClassName}
 use Rattle.ld_class.specs.Names.{AreDistinct, PlainClass, no_class, place_of, plain_class}
 use Rattle.ld_class.specs.Names.{same_class, with_name}
 use Rattle.ld_class.proofs.AnyNames.{apart-from_IsDistinct, insert_key-with_one}

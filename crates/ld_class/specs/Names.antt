@@ -3,7 +3,7 @@
 use Rattle.std.specs.Prelude.{◌≡◌, ◌<◌, ℕ, Bool, ◌&&◌, ◌==◌, Option, List, [], ◌∷◌, ◌++◌}
 use Rattle.std.specs.Prelude.{length, position, is_some, slice_index_or, if◌then◌else◌}
 use Rattle.std.specs.Str.{bytes_eq}
-use Rattle.ld_class.specs.declared.class_name.ClassName.{ClassName}
+use Rattle.ld_class.specs.declared.names.ClassName.{ClassName}
 
 -- the name of a class without where it lies in memory: `sub` is 0 for the class itself, and N for its
 -- subclass `name/N`

@@ -4,7 +4,7 @@ ghost use Rattle.std.specs.Prelude.{slice_index_or, OnErr, OnOk};
 ghost use Rattle.ld_class.specs.Names.{place_of, AreDistinct, no_class, plain_class};
 ghost use Rattle.ld_class.specs.declared.names.TheConstants.{MOST_NAMES};
 
-use crate::class_name::ClassName;
+use crate::names::ClassName;
 use std::alloc::{AllocError, Global};
 use std::marker::Model;
 

@@ -1,15 +1,39 @@
-//! `Classes`, which numbers the names of classes.
-ghost use Rattle.std.specs.Prelude.{◌≡◌, ◌<◌, ◌≤◌, ◌↔◌, ℕ, [], length, take};
-ghost use Rattle.std.specs.Prelude.{slice_index_or, IfOk, OnOk, OnErr, Some};
+//! `ClassName`, the name of a class, and `Classes`, which numbers such names.
+ghost use Rattle.std.specs.Prelude.{◌≡◌, ◌<◌, ◌≤◌, ◌↔◌, ℕ, [], length, take, slice_index_or, IfOk, OnOk, OnErr, Some};
 ghost use Rattle.std.specs.Bool.{OnTrue};
-ghost use Rattle.ld_class.specs.Names.{place_of, with_name, IsNameAt, AreDistinct};
-ghost use Rattle.ld_class.specs.Names.{no_class, plain_class};
+ghost use Rattle.ld_class.specs.Names.{place_of, with_name, IsNameAt, AreDistinct, no_class, plain_class};
 
 use crate::bytes::same_bytes;
-use crate::class_name::ClassName;
 use indexmap::IndexSet;
 use std::alloc::{AllocError, Global};
+use std::hash::{Hash, Hasher};
 use std::marker::Model;
+
+/// The name of a class of locks: that of the class, and which of its subclasses it is. Two names are
+/// ordered by the bytes of `name`, then by `sub`.
+#[derive(Clone, Copy, Debug, PartialEq, Eq, PartialOrd, Ord)]
+pub struct ClassName<'a> {
+    /// The class part of a lock.
+    pub name: &'a [u8],
+    /// 0 for the class itself, 1 to 7 for its subclass `name/N`.
+    pub sub: u8,
+}
+
+// The bytes are hashed by one write, where a slice hashes them one by one. The subclass is left out, which would
+// cost every name a second write: a class has eight at most.
+impl<'a> Hash for ClassName<'a> {
+    ghost use Rattle.std.specs.Prelude.{[], ◌∷◌};
+    ghost use Rattle.std.specs.Cmp.Rules.{hashing};
+    ghost use Rattle.std.proofs.Common.{rules};
+
+    ghost hash_input = { λ class. class.name.now ∷ [] };
+
+    ghost respects_eq = { Prim.search (hashing, rules) };
+
+    fn hash<H: Hasher>(&self, state: &mut H) {
+        state.write(self.name);
+    }
+}
 
 /// The most names that a `Classes` holds: more than a whole stream of traces can have, and few
 /// enough that each place fits a `u32`.

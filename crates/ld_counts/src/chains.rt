@@ -1,6 +1,6 @@
 //! The chains of some traces: the sequences of classes that a task holds in one frame just after it acquired there.
 
-use crate::guesses::{Guesses, mixed};
+use crate::hints::{Hints, mixed};
 use indexmap::IndexSet;
 use std::alloc::{AllocError, Global};
 
@@ -17,15 +17,15 @@ pub(crate) fn chain_of(before: u64, class: u32) -> u64 {
 #[derive(Drop)]
 pub(crate) struct Chains {
     chains: IndexSet<u64>,
-    guesses: Guesses,
+    hints: Hints,
 }
 
 impl Chains {
     pub(crate) fn new(alloc: Global) -> Result<Chains, AllocError> {
-        let guesses = Guesses::new(alloc)?;
+        let hints = Hints::new(alloc)?;
         Ok(Chains {
             chains: IndexSet::new(alloc),
-            guesses,
+            hints,
         })
     }
 
@@ -37,9 +37,9 @@ impl Chains {
     /// The chain was seen.
     #[inline(always)]
     pub(crate) fn add(&mut self, chain: u64) -> Result<(), AllocError> {
-        if self.guesses.of(chain) != chain {
+        if self.hints.of(chain) != chain {
             self.chains.insert(chain)?;
-            self.guesses.note(chain, chain);
+            self.hints.note(chain, chain);
         }
         Ok(())
     }

@@ -1,6 +1,6 @@
 //! Locks by how they are written: most are acquired again and again, and of these the lines aren't read any further.
 
-use crate::guesses::{GUESSES, key_of, slot};
+use crate::hints::{HINTS, key_of, slot};
 use crate::lines::{Words, next_acquisition, next_trylock, same_bytes};
 use crate::numbered::Numbered;
 use crate::told::class_of;
@@ -50,7 +50,7 @@ impl<'c, 'a> KnownLocks<'c, 'a> {
             class: 0,
             instance: None,
         };
-        let known = vec![in alloc; none; GUESSES]?;
+        let known = vec![in alloc; none; HINTS]?;
         let numbered = Numbered::new(alloc, classes)?;
         Ok(KnownLocks { known, numbered })
     }

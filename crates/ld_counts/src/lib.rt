@@ -6,7 +6,7 @@ mod acquired;
 mod chains;
 mod components;
 mod counted;
-mod guesses;
+mod hints;
 mod known;
 mod lines;
 mod merged;

@@ -1,6 +1,6 @@
 //! Finds the number of a class by its name.
 
-use crate::guesses::{Guesses, key_of};
+use crate::hints::{Hints, key_of};
 use ld_class::{ClassName, Classes};
 use std::alloc::{AllocError, Global};
 
@@ -9,7 +9,7 @@ use std::alloc::{AllocError, Global};
 #[derive(Drop)]
 pub(crate) struct Numbered<'c, 'a> {
     classes: &'c Classes<'a>,
-    guesses: Guesses,
+    hints: Hints,
 }
 
 impl<'c, 'a> Numbered<'c, 'a> {
@@ -17,8 +17,8 @@ impl<'c, 'a> Numbered<'c, 'a> {
         alloc: Global,
         classes: &'c Classes<'a>,
     ) -> Result<Numbered<'c, 'a>, AllocError> {
-        let guesses = Guesses::new(alloc)?;
-        Ok(Numbered { classes, guesses })
+        let hints = Hints::new(alloc)?;
+        Ok(Numbered { classes, hints })
     }
 
     /// The classes whose numbers are found.
@@ -29,13 +29,13 @@ impl<'c, 'a> Numbered<'c, 'a> {
     /// The number of a class.
     pub(crate) fn find(&mut self, class: ClassName<'_>) -> Option<u32> {
         let key = key_of(class.name).wrapping_add((class.sub as u64) << 52);
-        if let Ok(guess) = u32::try_from(self.guesses.of(key)) {
-            if self.classes.is_at(guess, class) {
-                return Some(guess);
+        if let Ok(hint) = u32::try_from(self.hints.of(key)) {
+            if self.classes.is_at(hint, class) {
+                return Some(hint);
             }
         }
         let found = self.classes.find(class)?;
-        self.guesses.note(key, found as u64);
+        self.hints.note(key, found as u64);
         Some(found)
     }
 }

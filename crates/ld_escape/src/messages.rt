@@ -1,11 +1,11 @@
 //! Writes names into messages of SARIF.
-ghost use Rattle.std.specs.Prelude.{◌≡◌, ◌++◌, List, OnOk, count_by, flat_map, ℕ};
+ghost use Rattle.std.specs.Prelude.{◌≡◌, ◌++◌, ◌≤◌, Bool, List, OnOk, count_by, flat_map, length, take, ℕ};
 ghost use Rattle.std.specs.List.{AllPass};
 ghost use Rattle.ld_escape.specs.declared.form.Form.TheVariants.{Json};
 ghost use Rattle.ld_escape.specs.Forms.{is_marked};
 ghost use Rattle.ld_escape.specs.Messages.{is_brace, is_link_sign, message, said_json, sign_before, written_message};
 ghost use Rattle.ld_escape.specs.Shown.{is_shown};
-ghost use Rattle.ld_escape.specs.Written.{is_lead, may_stand};
+ghost use Rattle.ld_escape.specs.Written.{is_lead, may_stand, piece};
 
 use crate::escaping::write_pieces;
 use crate::form::Form;
@@ -35,10 +35,30 @@ pub fn write_message(out: &mut Vec<u8>, name: &[u8]) -> Result<(), AllocError>
 fn write_all_said(out: &mut Vec<u8>, shown: bool, name: &[u8]) -> Result<(), AllocError>
     ensures { OnOk result (out.new.items ≡ out.old.items ++ flat_map (said_json shown) name.now) }
 {
-    for byte in name {
+    let mut rest = name;
+    loop {
+        let (plain, behind) = rest.split_at(plain_len(rest));
+        write_pieces(out, Form::Json, shown, plain)?;
+        let Some((byte, after)) = behind.split_first() else {
+            return Ok(());
+        };
         write_said(out, shown, *byte)?;
+        rest = after;
     }
-    Ok(())
+}
+
+/// How many bytes stand before the first that a message says with a sign.
+fn plain_len(name: &[u8]) -> usize
+    ensures within { result ≤ length name.now }
+    ensures plain { (shown : Bool) → flat_map (said_json shown) (take result name.now)
+        ≡ flat_map (piece Json shown) (take result name.now) }
+{
+    for (count, byte) in name.iter().enumerate() {
+        if is_brace(*byte) || is_link_sign(*byte) {
+            return count;
+        }
+    }
+    name.len()
 }
 
 /// Writes a byte of a name that is shown, or of one that isn't, as it is said in a message.

@@ -10,7 +10,7 @@ use Rattle.ld_rules.specs.declared.outcome.Witness.{Witness}
 use Rattle.ld_rules.specs.Outcome.{name_of, outcome}
 use Rattle.ld_rules.specs.Union.{dependency_witness}
 use Rattle.ld_batch.specs.Batch.{AreRising}
-use Rattle.ld_overview.specs.OfBook.declared.totals.Totals.{Totals as BookTotals}
+use Rattle.ld_overview.specs.OfBook.declared.listing.Totals.{Totals as BookTotals}
 use Rattle.ld_overview.specs.OfBook.Findings.{AreFindings, PlainCycleRow, PlainFindings}
 use Rattle.ld_rows.specs.declared.classes.Class.{Class}
 use Rattle.ld_rows.specs.declared.violations.Dependency.{Dependency}

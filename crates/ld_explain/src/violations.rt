@@ -6,7 +6,9 @@ ghost use Rattle.ld_rows.specs.declared.violations.Kind.TheVariants.{Conflict, F
 ghost use Rattle.ld_explain.specs.Rows.{AreViolations, cycle_kind, cycle_said, findings_said};
 ghost use Rattle.ld_explain.specs.Steps.{AreFirst, IsAtFirst, IsEvery, violation_said};
 
-use ld_overview::{Book, ClassName, ConflictRow, CycleRow, Findings, ForbiddenRow, Walk, Witness};
+use ld_overview::{
+    Book, ClassName, ConflictRow, CycleRow, Findings, ForbiddenRow, ForbiddenRows, Names, Witness,
+};
 use ld_rows::Kind;
 use ld_trace::{State, next_line, text};
 use std::alloc::{AllocError, Global};
@@ -104,7 +106,7 @@ impl<'r, 'a> Violation<'r, 'a> {
     {
         let mut steps = Vec::new(alloc);
         add_step(book, &mut steps, row.from, row.to)?;
-        add_steps(book, &mut steps, &row.via)?;
+        add_steps(book, &mut steps, &row.via.names())?;
         Ok(Violation {
             kind: cycle_kind(row),
             line,
@@ -232,7 +234,7 @@ fn add_step<'a>(
 fn add_steps<'a>(
     book: &Book<'a>,
     steps: &mut Vec<Step<'a>>,
-    walk: &Walk<'_, 'a>,
+    walk: &Names<'_, 'a>,
 ) -> Result<(), AllocError>
     requires { All (IsAtFirst book.now) steps.old.items }
     ensures { OnOk result (All (IsAtFirst book.now) steps.new.items) }
@@ -325,11 +327,44 @@ fn chosen_of<'r, 'a>(
         let violation = Violation::of_conflict(alloc, lines.next_text(), row);
         add(&mut all, violation, choice)?;
     }
-    for row in findings.forbidden.items() {
-        let violation = Violation::of_forbidden(alloc, book, lines.next_text(), row)?;
-        add(&mut all, violation, choice)?;
-    }
+    add_forbidden(
+        alloc,
+        book,
+        &findings.forbidden.hard,
+        lines,
+        choice,
+        &mut all,
+    )?;
+    add_forbidden(
+        alloc,
+        book,
+        &findings.forbidden.soft,
+        lines,
+        choice,
+        &mut all,
+    )?;
     Ok(all)
+}
+
+/// Adds the forbidden walks of a state that are chosen, whose lines come next.
+fn add_forbidden<'r, 'a>(
+    alloc: Global,
+    book: &Book<'a>,
+    rows: &ForbiddenRows<'_, 'a>,
+    lines: &mut Lines<'r>,
+    choice: &Choice<'_>,
+    all: &mut Vec<Violation<'r, 'a>>,
+) -> Result<(), AllocError>
+    ensures first { All (AreFirst book.now) all.old.items → OnOk result (All (AreFirst book.now) all.new.items) }
+    ensures every { IsEvery choice.now → OnOk result (map violation_said all.new.items
+        ≡ map violation_said all.old.items ++ map (λ row. (Forbidden, Some row.state)) rows.now) }
+{
+    for place in 0..rows.len() {
+        let row = rows.row(place);
+        let violation = Violation::of_forbidden(alloc, book, lines.next_text(), &row)?;
+        add(all, violation, choice)?;
+    }
+    Ok(())
 }
 
 /// Adds a violation, if it is chosen.

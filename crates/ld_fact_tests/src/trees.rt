@@ -67,14 +67,13 @@ fn expect_paths<R: Abort>(
 {
     search(rt, tree, leading, start);
     let found = tree.found();
+    let mut path = Vec::new(alloc);
     assert_eq!(rt; found.len(), wanted.len());
     for (number, end) in found.iter().enumerate() {
-        let path = match tree.walk(alloc, leading, start, *end) {
-            Ok(path) => path,
-            Err(_) => tree
-                .walk(alloc, leading, start, *end)
-                .expect(rt, "path made again"),
-        };
+        if tree.walk(leading, start, *end, &mut path).is_err() {
+            tree.walk(leading, start, *end, &mut path)
+                .expect(rt, "path made again");
+        }
         assert!(rt; number < wanted.len());
         assert_eq!(rt; path.as_slice(), wanted[number]);
     }

@@ -17,8 +17,8 @@ use Rattle.ld_rules.specs.Inner.Levels.{is_interrupt}
 use Rattle.ld_rules.specs.Outcome.{classes, event_fault, events, is_bad_enable, is_bad_exit, is_badly_nested}
 use Rattle.ld_rules.specs.Held.{class_acquired}
 use Rattle.ld_rules.specs.Outcome.{is_held_at_exit, is_late_begin, is_masked, is_not_held, is_one_too_many, tasks}
-use Rattle.ld_facts.specs.declared.taking.Taking.{Taking}
-use Rattle.ld_facts.specs.declared.taking.Taking.TheVariants.{Nesting, Trying, Waiting}
+use Rattle.ld_facts.specs.declared.acquire_kind.AcquireKind.{AcquireKind}
+use Rattle.ld_facts.specs.declared.acquire_kind.AcquireKind.TheVariants.{Nesting, Trying, Waiting}
 use Rattle.ld_facts.specs.Inner.Scan.{IsAt, Start, acquisition, class_taken, own_names, waits}
 use Rattle.ld_rules.proofs.HeldLemmas.{acquisition_at}
 use Rattle.ld_rules.proofs.UsageLemmas.{newly_held}
@@ -26,45 +26,45 @@ use Rattle.ld_facts.proofs.TaskLemmas.{is_one_too_many-fits, is_one_too_many-ful
 
 -- an acquisition is of its task and its lock
 module _ (name : List ℕ) (lock : PlainLock) where
-  pub acquired : (how : Taking) → lock_acquired (acquisition how name lock) ≡ Some lock
+  pub acquired : (how : AcquireKind) → lock_acquired (acquisition how name lock) ≡ Some lock
   acquired (Nesting sub) = refl
   acquired Trying = refl
   acquired Waiting = refl
 
-  pub class-acquired : (how : Taking) → class_acquired (acquisition how name lock) ≡ Some (class_taken how lock)
+  pub class-acquired : (how : AcquireKind) → class_acquired (acquisition how name lock) ≡ Some (class_taken how lock)
   class-acquired (Nesting sub) = refl
   class-acquired Trying = refl
   class-acquired Waiting = refl
 
-  pub class-named : (how : Taking) → class_with lock (sub_taken (acquisition how name lock)) ≡ class_taken how lock
+  pub class-named : (how : AcquireKind) → class_with lock (sub_taken (acquisition how name lock)) ≡ class_taken how lock
   class-named (Nesting sub) = refl
   class-named Trying = refl
   class-named Waiting = refl
 
   -- the class that it waits for, where it waits
-  pub class-awaited : (how : Taking) → waits how ≡ true → class_awaited (acquisition how name lock) ≡ Some (class_taken how lock)
+  pub class-awaited : (how : AcquireKind) → waits how ≡ true → class_awaited (acquisition how name lock) ≡ Some (class_taken how lock)
   class-awaited (Nesting sub) is = refl
   class-awaited Trying is = absurd (true≢false (sym is))
   class-awaited Waiting is = refl
 
-  pub none-awaited : (how : Taking) → waits how ≡ false → class_awaited (acquisition how name lock) ≡ None
+  pub none-awaited : (how : AcquireKind) → waits how ≡ false → class_awaited (acquisition how name lock) ≡ None
   none-awaited (Nesting sub) is = absurd (true≢false is)
   none-awaited Trying is = refl
   none-awaited Waiting is = absurd (true≢false is)
 
   -- what it may newly count
-  pub counts-itself : (how : Taking) (past : List PlainEvent) → newly_held past (acquisition how name lock) ≡
+  pub counts-itself : (how : AcquireKind) (past : List PlainEvent) → newly_held past (acquisition how name lock) ≡
       acquisition_at past (acquisition how name lock) lock ∷ []
   counts-itself (Nesting sub) past = refl
   counts-itself Trying past = refl
   counts-itself Waiting past = refl
 
-  pub task-acquired : (how : Taking) → task_of (acquisition how name lock) ≡ name
+  pub task-acquired : (how : AcquireKind) → task_of (acquisition how name lock) ≡ name
   task-acquired (Nesting sub) = refl
   task-acquired Trying = refl
   task-acquired Waiting = refl
 
-  pub calm : (how : Taking) → is_interrupt (acquisition how name lock) ≡ false
+  pub calm : (how : AcquireKind) → is_interrupt (acquisition how name lock) ≡ false
   calm (Nesting sub) = refl
   calm Trying = refl
   calm Waiting = refl
@@ -79,14 +79,14 @@ record NoLater (past : List PlainEvent) (event : PlainEvent) : Type 0 where
   enables : is_bad_enable past event ≡ false
   begins : is_late_begin past event ≡ false
 
-no-later : (past : List PlainEvent) (name : List ℕ) (lock : PlainLock) (how : Taking) → NoLater past (acquisition how name lock)
+no-later : (past : List PlainEvent) (name : List ℕ) (lock : PlainLock) (how : AcquireKind) → NoLater past (acquisition how name lock)
 no-later past name lock (Nesting sub) = record { is_held = refl; nests = refl; unmasked = refl; exits = refl; holds_none = refl; enables = refl; begins = refl }
 no-later past name lock Trying = record { is_held = refl; nests = refl; unmasked = refl; exits = refl; holds_none = refl; enables = refl; begins = refl }
 no-later past name lock Waiting = record { is_held = refl; nests = refl; unmasked = refl; exits = refl; holds_none = refl; enables = refl; begins = refl }
 
 -- the faults of an acquisition, in their order
 module _ {start : Start} (all : List Position) (old : Scan) (is : IsAt start all old)
-    (how : Taking) (name : List ℕ) (lock : PlainLock) (fits : place_of_task old.tasks name ≡ None → length old.tasks < MOST_TASKS) where
+    (how : AcquireKind) (name : List ℕ) (lock : PlainLock) (fits : place_of_task old.tasks name ≡ None → length old.tasks < MOST_TASKS) where
   tasks_fit : is_one_too_many bytes_eq MOST_TASKS (tasks (events all)) (task_of (acquisition how name lock)) ≡ false
   tasks_fit = rw (task-acquired name lock how, ← is.tasks) (is_one_too_many-fits bytes_eq [] bytes_eq-Decides MOST_TASKS old.tasks name fits)
 

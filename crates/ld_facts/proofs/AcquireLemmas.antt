@@ -28,7 +28,7 @@ use Rattle.ld_tables.specs.Inner.Interrupts.{enabled_now, fresh, start_now}
 use Rattle.ld_rules.specs.Inner.Levels.{stack, state_of_frame}
 use Rattle.ld_tables.specs.Inner.Locks.{HeldByTasks, Hold, Tells}
 use Rattle.ld_rules.specs.Outcome.{classes, events}
-use Rattle.ld_facts.specs.declared.taking.Taking.{Taking}
+use Rattle.ld_facts.specs.declared.acquire_kind.AcquireKind.{AcquireKind}
 use Rattle.ld_facts.specs.Inner.Scan.{AreMany, HasTask, HasWaited, HeldLock, IsAt, IsTask, Start, acquisition, class_taken, classes_after, edges_after, happens}
 use Rattle.ld_facts.specs.Inner.Scan.{lock_held, named_hold, names_at, own_names, taken, uses_after, waits}
 use Rattle.ld_facts.specs.Named.{IsBetween, named_dependency, named_use}
@@ -102,7 +102,7 @@ told-of_numbers names number line [] = refl
 told-of_numbers names number line (from ∷ froms) = ap (λ o. on_class (slice_index_or names number no_class) line (slice_index_or names from no_class) ∷ o) (told-of_numbers names number line froms)
 
 -- an acquisition that fits is one more position
-module _ {start : Start} (all : List Position) (old : Scan) (is : IsAt start all old) (how : Taking)
+module _ {start : Start} (all : List Position) (old : Scan) (is : IsAt start all old) (how : AcquireKind)
     (name : List ℕ) (lock : PlainLock) (line id number : ℕ) (new : Scan) (enters : Entered old name (class_taken how lock) id number new) where
   abbrev event : PlainEvent
   event = acquisition how name lock

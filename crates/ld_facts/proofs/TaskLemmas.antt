@@ -29,10 +29,10 @@ use Rattle.ld_tables.specs.Inner.Interrupts.{fresh, levels_of, starts_of, states
 use Rattle.ld_rules.specs.Inner.Levels.{levels, stack, starts_in, state_of_frame}
 use Rattle.ld_tables.specs.Inner.Locks.{Hold}
 use Rattle.ld_rules.specs.Outcome.{is_one_too_many, event_fault, events, tasks}
-use Rattle.ld_facts.specs.declared.stop.Stop.{Stop}
-use Rattle.ld_facts.specs.declared.stop.Stop.TheVariants.{Fault}
-use Rattle.ld_facts.specs.declared.taking.Taking.{Taking}
-use Rattle.ld_facts.specs.declared.taking.Taking.TheVariants.{Nesting, Trying, Waiting}
+use Rattle.ld_facts.specs.declared.scan.Stop.{Stop}
+use Rattle.ld_facts.specs.declared.scan.Stop.TheVariants.{Fault}
+use Rattle.ld_facts.specs.declared.acquire_kind.AcquireKind.{AcquireKind}
+use Rattle.ld_facts.specs.declared.acquire_kind.AcquireKind.TheVariants.{Nesting, Trying, Waiting}
 use Rattle.ld_facts.specs.Inner.Scan.{IsAt, IsItsFault, IsTask, Start, acquisition, lock_held, named_hold}
 use Rattle.ld_facts.proofs.NamedLemmas.{holds-stay, holds-stay_within}
 use Rattle.ld_rules.proofs.PlaceLemmas.{alike_from_decides, any_each_once, by_pushes}
@@ -185,7 +185,7 @@ task-refused scan event told answer why handed fault is start all is_at =
     scan_too_many_tasks all scan event is_at at.1 at.2 ∙ ap Some (sym at.0)
 
 -- one task too many for an acquisition
-pub acquisition_too_many_tasks : {start : Start} (all : List Position) (scan : Scan) (how : Taking) (name : List ℕ) (lock : PlainLock) → IsAt start all scan → place_of_task
+pub acquisition_too_many_tasks : {start : Start} (all : List Position) (scan : Scan) (how : AcquireKind) (name : List ℕ) (lock : PlainLock) → IsAt start all scan → place_of_task
     scan.tasks name ≡ None → MOST_TASKS ≤ length scan.tasks → event_fault (events all) (acquisition how name lock) ≡ Some TooManyTasks
 acquisition_too_many_tasks all scan Trying name lock is_at new full = scan_too_many_tasks all scan (Try name lock) is_at new full
 acquisition_too_many_tasks all scan (Nesting sub) name lock is_at new full = scan_too_many_tasks all scan (Nested name lock sub) is_at new full

@@ -11,7 +11,7 @@ use Rattle.std.specs.List.{list_any}
 use Rattle.ld_class.specs.Blocks.{IsBlock, classes_in}
 use Rattle.ld_batch.specs.declared.rows.WitnessedWord.{WitnessedWord}
 use Rattle.ld_batch.specs.Inner.Rows as lent
-use Rattle.ld_tables.specs.declared.words.Telling.{Telling}
+use Rattle.ld_tables.specs.declared.masks.NewEdges.{NewEdges}
 use Rattle.ld_tables.specs.Inner.Edges as told
 use Rattle.ld_facts.specs.Inner.Rows.{IsOwnEdge, IsOwnWord, edge_of, edges_at, edges_in, place_in, word_of}
 use Rattle.ld_facts.proofs.RowLemmas.{first_there}
@@ -29,10 +29,10 @@ all-unmapped P f [] all = All-nil (λ x. P (f x))
 all-unmapped P f (x ∷ xs) all = All-cons (λ x. P (f x)) x xs (All-head P (f x) (map f xs) all) (all-unmapped P f xs (All-tail P (f x) (map f xs) all))
 
 -- What a line told is what its row has.
-told-in : (numbers : List ℕ) (number : ℕ) (t : Telling) → edges_in numbers (word_of number t) ≡ map (edge_of numbers number) (told.edges_in t)
+told-in : (numbers : List ℕ) (number : ℕ) (t : NewEdges) → edges_in numbers (word_of number t) ≡ map (edge_of numbers number) (told.edges_in t)
 told-in numbers number t = sym (map-map (edge_of numbers number) (told.edge_to t.word.to t.line) (classes_in t.word.block t.bits))
 
-pub words-told : (numbers : List ℕ) (number : ℕ) (tellings : List Telling) → edges_at numbers (map (word_of number) tellings) ≡ map (edge_of numbers number) (told.edges_of tellings)
+pub words-told : (numbers : List ℕ) (number : ℕ) (tellings : List NewEdges) → edges_at numbers (map (word_of number) tellings) ≡ map (edge_of numbers number) (told.edges_of tellings)
 words-told numbers number [] = refl
 words-told numbers number (t ∷ tellings) =
     (λ i. told-in numbers number t i ++ words-told numbers number tellings i)
@@ -76,18 +76,18 @@ module _ (old new : List ℕ) (front : take (length old) new ≡ old) where
   }
 
   -- and with more rows, all are of these numbers
-  pub own-words : (words : List WitnessedWord) (number : ℕ) (tellings : List Telling) → All (IsOwnWord old) words → All (λ (t : Telling). IsBlock t.word.block) tellings
+  pub own-words : (words : List WitnessedWord) (number : ℕ) (tellings : List NewEdges) → All (IsOwnWord old) words → All (λ (t : NewEdges). IsBlock t.word.block) tellings
       → All (IsOwnEdge new) (told.edges_of tellings) → All (IsOwnWord new) (words ++ map (word_of number) tellings)
   own-words words number tellings own low told_own = All-append (IsOwnWord new) words (map (word_of number) tellings) (All-weaker (IsOwnWord old) (IsOwnWord new) own-stays words own) (each tellings low told_own)
     where
-      each : (ts : List Telling) → All (λ (t : Telling). IsBlock t.word.block) ts → All (IsOwnEdge new) (told.edges_of ts) → All (IsOwnWord new) (map (word_of number) ts)
+      each : (ts : List NewEdges) → All (λ (t : NewEdges). IsBlock t.word.block) ts → All (IsOwnEdge new) (told.edges_of ts) → All (IsOwnWord new) (map (word_of number) ts)
       each [] low own = All-nil (IsOwnWord new)
       each (t ∷ ts) low own = All-cons (IsOwnWord new) (word_of number t) (map (word_of number) ts)
           (record {
-            low = All-head (λ (t : Telling). IsBlock t.word.block) t ts low;
+            low = All-head (λ (t : NewEdges). IsBlock t.word.block) t ts low;
             own = all-unmapped (IsOwnEdge new) (told.edge_to t.word.to t.line) (classes_in t.word.block t.bits) (All-first (IsOwnEdge new) (told.edges_in t) (told.edges_of ts) own);
           })
-          (each ts (All-tail (λ (t : Telling). IsBlock t.word.block) t ts low) (All-behind (IsOwnEdge new) (told.edges_in t) (told.edges_of ts) own))
+          (each ts (All-tail (λ (t : NewEdges). IsBlock t.word.block) t ts low) (All-behind (IsOwnEdge new) (told.edges_in t) (told.edges_of ts) own))
 
 -- Rows by places that are lent are the same.
 pub words-lent : (numbers places : List ℕ) → ((n : ℕ) → list_any (nat_eq n) numbers ≡ true → get_or places n 0 ≡ place_in numbers n) → (words : List WitnessedWord) → All (IsOwnWord numbers) words

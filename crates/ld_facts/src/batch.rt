@@ -9,7 +9,7 @@ ghost use Rattle.ld_batch.specs.Batch.{AreOutcomes, IsBatch, empty_batch, shown_
 
 use crate::known::Facts;
 use crate::series::Series;
-use ld_batch::{Edges, Guesses, Shown, WitnessedUse};
+use ld_batch::{Edges, Hints, Shown, WitnessedUse};
 use ld_class::ClassList;
 use ld_rules::Listed;
 use ld_trace::Source;
@@ -130,7 +130,7 @@ impl<'a> Batch<'a> {
         self.series.usage()
     }
 
-    /// What the traces show, with the numbers that the scan has for their classes, by which guesses are
+    /// What the traces show, with the numbers that the scan has for their classes, by which hints are
     /// kept. Takes no memory.
     pub fn shown(&self) -> Shown<'_, 'a>
         ensures { result ≡ shown_alone self.now }
@@ -138,10 +138,10 @@ impl<'a> Batch<'a> {
         self.series.shown()
     }
 
-    /// Puts these guesses in the place of those that were kept, and answers those. Takes no memory.
-    pub fn swap_guesses(&mut self, guesses: Guesses) -> Guesses
+    /// Puts these hints in the place of those that were kept, and answers those. Takes no memory.
+    pub fn swap_hints(&mut self, hints: Hints) -> Hints
         ensures { self.new ≡ self.old }
     {
-        self.series.swap_guesses(guesses)
+        self.series.swap_hints(hints)
     }
 }

@@ -4,7 +4,7 @@ ghost use Rattle.ld_class.specs.Names.{AreDistinct};
 ghost use Rattle.ld_facts.specs.Inner.Scan.{begun, fresh_scan, undone};
 ghost use Rattle.ld_facts.specs.declared.bounds.TheConstants.{MOST_KNOWN};
 
-use crate::scan::{Before, Scan};
+use crate::scan::{Scan, TraceStart};
 
 /// How many names of classes a scan knows at most when it begins anew.
 pub const MOST_KNOWN: usize = 1 << 16;
@@ -20,14 +20,14 @@ impl<'a> Scan<'a> {
         self.tasks.clear();
         self.own.cut(0);
         self.locks.begin();
-        self.before = Before {
+        self.before = TraceStart {
             classes: self.classes.len(),
             uses: self.uses.as_slice().len(),
         };
     }
 
     /// Takes all away but the names of classes, while they are few, which keep their numbers; and what stands in no
-    /// clause: names of tasks, chains and words, while they are few, and guesses. The memory stays.
+    /// clause: names of tasks, chains and words, while they are few, and hints. The memory stays.
     pub fn clear(&mut self)
         ensures fresh { self.new ≡ fresh_scan self.new.classes }
         ensures distinct { AreDistinct self.new.classes }
@@ -40,7 +40,7 @@ impl<'a> Scan<'a> {
         self.own.cut(0);
         self.locks.clear();
         self.uses.cut(0);
-        self.before = Before {
+        self.before = TraceStart {
             classes: self.classes.len(),
             uses: 0,
         };

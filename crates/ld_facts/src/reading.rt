@@ -9,8 +9,7 @@ ghost use Rattle.ld_rules.specs.declared.outcome.Outcome.TheVariants.{Read, Refu
 ghost use Rattle.ld_facts.specs.Inner.Scan.{AreMany, IsAt, StandsOn, Start};
 
 use crate::known::Facts;
-use crate::scan::Scan;
-use crate::stop::Stop;
+use crate::scan::{Scan, Stop};
 use ld_class::Classes;
 use ld_rules::{Outcome, TraceFault};
 use ld_tables::Uses;

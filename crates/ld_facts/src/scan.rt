@@ -1,28 +1,25 @@
 //! The scan of a trace: what its events so far leave, one event at a time.
-ghost use Rattle.std.specs.Prelude.{◌≡◌, ◌<◌, ◌≤◌, ℕ, [], None, Err, fold};
-ghost use Rattle.std.specs.Prelude.{length, map, slice_index_or, IfOk, OnOk};
+ghost use Rattle.std.specs.Prelude.{◌≡◌, ◌<◌, ◌≤◌, ℕ, [], None, Err, fold, length, map, slice_index_or, IfOk, OnOk};
 ghost use Rattle.ld_class.specs.Names.{place_of, plain_class, with_name, IsNameAt};
 ghost use Rattle.ld_class.specs.declared.names.TheConstants.{MOST_NAMES};
 ghost use Rattle.ld_trace.specs.Events.{plain_event, plain_lock};
 ghost use Rattle.ld_trace.specs.Events.PlainEvent.{Begin, Disable, Enable, Enter, Exit, Release};
 ghost use Rattle.ld_tables.specs.Inner.Interrupts.{fresh};
-ghost use Rattle.ld_facts.specs.Inner.Scan.{AreMany, HasWaited, IsItsFault, IsStep, StandsOn, acquisition};
-ghost use Rattle.ld_facts.specs.Inner.Scan.{fresh_scan, own_names, taken};
+ghost use Rattle.ld_facts.specs.Inner.Scan.{AreMany, HasWaited, IsItsFault, IsStep, StandsOn, acquisition, fresh_scan, own_names, taken};
 ghost use Rattle.ld_tables.specs.Inner.Uses.{on_facts, with_use};
 ghost use Rattle.ld_rules.specs.declared.fault.TraceFault.{TraceFault};
 ghost use Rattle.ld_rules.specs.declared.outcome.TheConstants.{MOST_CLASSES, MOST_HELD};
 
-use crate::stop::Stop;
-use crate::taking::Taking;
+use crate::acquire_kind::AcquireKind;
 use ld_class::{ClassName, Classes};
 use ld_rules::{MOST_CLASSES, MOST_HELD, TraceFault};
-use ld_tables::{Flag, Locks, Marked, TaskNames, Uses};
+use ld_tables::{Flag, Locks, MarkedSet, TaskNames, Uses};
 use ld_trace::{Event, Lock, State};
 use std::alloc::{AllocError, Global};
 
 /// How much there was before the trace.
 #[derive(Clone, Copy)]
-pub struct Before {
+pub struct TraceStart {
     pub(crate) classes: usize,
     pub(crate) uses: usize,
 }
@@ -36,12 +33,12 @@ pub struct Scan<'a> {
     /// first acquisition.
     pub classes: Classes<'a>,
     /// The classes of the trace, by their numbers, in order of first acquisition.
-    pub own: Marked,
+    pub own: MarkedSet,
     /// What the tasks hold, by their numbers, their frames and flags, and the dependencies.
     pub locks: Locks<'a>,
     /// The usage bits of the classes, by their numbers.
     pub uses: Uses,
-    pub(crate) before: Before,
+    pub(crate) before: TraceStart,
 }
 
 impl<'a> Scan<'a> {
@@ -52,10 +49,10 @@ impl<'a> Scan<'a> {
         Scan {
             tasks: TaskNames::new(alloc),
             classes: Classes::new(alloc),
-            own: Marked::new(alloc),
+            own: MarkedSet::new(alloc),
             locks: Locks::new(alloc),
             uses: Uses::new(alloc),
-            before: Before {
+            before: TraceStart {
                 classes: 0,
                 uses: 0,
             },
@@ -71,9 +68,9 @@ impl<'a> Scan<'a> {
         ensures first { StandsOn self.old self.new }
     {
         let acquired = match event {
-            Event::Acquire { task, lock } => (task, lock, Taking::Waiting),
-            Event::Try { task, lock } => (task, lock, Taking::Trying),
-            Event::Nested { task, lock, sub } => (task, lock, Taking::Nesting(sub)),
+            Event::Acquire { task, lock } => (task, lock, AcquireKind::Waiting),
+            Event::Try { task, lock } => (task, lock, AcquireKind::Trying),
+            Event::Nested { task, lock, sub } => (task, lock, AcquireKind::Nesting(sub)),
             Event::Release { task, lock } => return self.release(task, lock),
             Event::Enter { task, state } => return self.enter(task, state),
             Event::Exit { task, state } => return self.exit(task, state, line),
@@ -91,7 +88,7 @@ impl<'a> Scan<'a> {
         task: &'a [u8],
         lock: Lock<'a>,
         line: u64,
-        how: Taking,
+        how: AcquireKind,
     ) -> Result<(), Stop>
         requires many { AreMany self.old }
         ensures many { OnOk result (AreMany self.new) }
@@ -337,5 +334,24 @@ impl<'a> Scan<'a> {
             Some(class) => Ok(class),
             None => self.classes.intern(name),
         }
+    }
+}
+
+/// Why a scan ends before its trace does.
+#[derive(Clone, Copy)]
+pub enum Stop {
+    /// There is no memory.
+    Memory,
+    /// The trace is refused.
+    Fault(TraceFault),
+}
+
+impl From<AllocError> for Stop {
+    ghost use Rattle.ld_facts.specs.declared.scan.Stop.TheVariants.{Memory};
+
+    ghost from_gives = { λ _ stop. stop ≡ Memory };
+
+    fn from(_: AllocError) -> Stop {
+        Stop::Memory
     }
 }

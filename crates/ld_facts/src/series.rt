@@ -13,7 +13,7 @@ use crate::batch_reading::read;
 use crate::batch_rows::BatchRows;
 use crate::bounds::MOST_KNOWN;
 use crate::scan::Scan;
-use ld_batch::{Guesses, Shown, WitnessedUse, Words};
+use ld_batch::{Hints, Shown, WitnessedUse, Words};
 use ld_class::ClassList;
 use ld_rules::Listed;
 use ld_trace::Source;
@@ -50,7 +50,7 @@ pub struct Series<'a> {
     scan: Scan<'a>,
     rows: BatchRows<'a>,
     passed: Passed,
-    guesses: Guesses,
+    hints: Hints,
 }
 
 impl<'a> Model for Series<'a> {
@@ -95,7 +95,7 @@ impl<'a> Series<'a> {
                 words: 0,
                 usage: 0,
             },
-            guesses: Guesses::new(alloc),
+            hints: Hints::new(alloc),
         }
     }
 
@@ -224,7 +224,7 @@ impl<'a> Series<'a> {
         self.passed.classes
     }
 
-    /// What the traces show, with the numbers that the scan has for their classes, by which guesses are
+    /// What the traces show, with the numbers that the scan has for their classes, by which hints are
     /// kept. Takes no memory.
     pub fn shown(&self) -> Shown<'_, 'a>
         ensures { result ≡ self.now }
@@ -240,10 +240,10 @@ impl<'a> Series<'a> {
         )
     }
 
-    /// Puts these guesses in the place of those that were kept, and answers those. Takes no memory.
-    pub fn swap_guesses(&mut self, guesses: Guesses) -> Guesses
+    /// Puts these hints in the place of those that were kept, and answers those. Takes no memory.
+    pub fn swap_hints(&mut self, hints: Hints) -> Hints
         ensures { self.new ≡ self.old }
     {
-        mem::replace(&mut self.guesses, guesses)
+        mem::replace(&mut self.hints, hints)
     }
 }

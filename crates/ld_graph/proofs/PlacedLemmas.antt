@@ -4,8 +4,8 @@ use Rattle.std.proofs.Common.{◌↔◌, true≢false, List, [], ◌∷◌, ◌+
 use Rattle.std.proofs.Common.{IsTrue, MatchOption, arith, refl, sym, ap, subst, ◌∙◌}
 use Rattle.std.proofs.lemmas.List.Elements.{Contains-append_left, Contains-push}
 use Rattle.ld_graph.specs.declared.graph.Graph.TheInside.{Inside}
-use Rattle.ld_graph.specs.declared.placed.Insert.{Insert}
-use Rattle.ld_graph.specs.declared.placed.Insert.TheVariants.{Known, Kept, Moved, Closed, AfterCycle}
+use Rattle.ld_graph.specs.declared.ranks.Insert.{Insert}
+use Rattle.ld_graph.specs.declared.ranks.Insert.TheVariants.{Known, Kept, Moved, Closed, AfterCycle}
 use Rattle.ld_graph.specs.declared.Edge.{Edge}
 use Rattle.ld_graph.specs.Edges.{edge, IsEdge, PlainGraph, with_edge}
 use Rattle.ld_graph.specs.Order.{AreRepaired, HasCycle, IsInserted}

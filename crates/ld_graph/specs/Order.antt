@@ -1,8 +1,8 @@
 -- An order of a graph's classes, and what an insert makes of it.
 use Rattle.std.specs.Prelude.{◌≡◌, ℕ, ◌+◌, ◌<◌, ◌≤◌, ◌⊎◌, List, length, slice_index}
 use Rattle.std.specs.Prelude.{Contains, MatchOption, None}
-use Rattle.ld_graph.specs.declared.placed.Insert.{Insert}
-use Rattle.ld_graph.specs.declared.placed.Insert.TheVariants.{Known, Kept, Moved, Closed, AfterCycle}
+use Rattle.ld_graph.specs.declared.ranks.Insert.{Insert}
+use Rattle.ld_graph.specs.declared.ranks.Insert.TheVariants.{Known, Kept, Moved, Closed, AfterCycle}
 use Rattle.ld_graph.specs.Edges.{IsEdge, PlainGraph, with_edge}
 use Rattle.ld_graph.specs.Walks.{HasWalk}
 

@@ -11,7 +11,6 @@ mod levels;
 mod lists;
 mod marks;
 mod neighbours;
-mod placed;
 mod ranks;
 mod reach;
 mod reorder;
@@ -24,7 +23,7 @@ pub use distance::Distance;
 pub use graph::{Graph, MOST_GRAPH_CLASSES};
 pub use inside::Distances;
 pub use lists::{Counting, Lists, Reader, Steps};
-pub use placed::Insert;
+pub use ranks::Insert;
 pub use reach::Reach;
 
 /// An edge, from one class to another.

@@ -20,8 +20,8 @@ use Rattle.ld_kernel.specs.declared.event.What.TheVariants as whats
 use Rattle.ld_kernel.specs.declared.fields.AcquireFields.{AcquireFields}
 use Rattle.ld_kernel.specs.declared.fields.ReleaseFields.{ReleaseFields}
 use Rattle.ld_kernel.specs.declared.fields.StockAcquireFields.{StockAcquireFields}
-use Rattle.ld_kernel.specs.declared.fields.StepBeginFields.{StepBeginFields}
-use Rattle.ld_kernel.specs.declared.fields.StepEndFields.{StepEndFields}
+use Rattle.ld_kernel.specs.declared.steps.StepBeginFields.{StepBeginFields}
+use Rattle.ld_kernel.specs.declared.steps.StepEndFields.{StepEndFields}
 use Rattle.ld_kernel.specs.declared.kind.Fields.{Fields}
 use Rattle.ld_kernel.specs.declared.kind.Fields.TheVariants as fields
 use Rattle.ld_kernel.specs.declared.kind.Kind.{Kind}

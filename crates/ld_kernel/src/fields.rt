@@ -5,7 +5,7 @@ ghost use Rattle.ld_layout.specs.Lines.{seen};
 ghost use Rattle.ld_kernel.specs.Fields.{number_named, located_named};
 ghost use Rattle.ld_kernel.specs.Events.{count_said, held_said, mode_said, word_said};
 
-use crate::event::{Acquire, Mode, Release, StepBegin, StepEnd, StockAcquire};
+use crate::event::{Acquire, Mode, Release, StockAcquire};
 use crate::located::text_at;
 use crate::number::{Number, Width, number_of};
 use crate::wrong::Wrong;
@@ -60,7 +60,7 @@ pub(crate) fn count(number: u64) -> Result<i32, Wrong>
 }
 
 /// A number of 32 bits.
-fn word(number: u64) -> Result<u32, Wrong>
+pub(crate) fn word(number: u64) -> Result<u32, Wrong>
     ensures { result ≡ word_said number }
 {
     if number < 0x1_0000_0000 {
@@ -289,123 +289,6 @@ impl StockAcquireFields {
             is_trylock: flags % 2 == 1,
             is_read: flags / 2 % 2 == 1,
             name,
-        })
-    }
-}
-
-/// Where the fields of `cpuhp_enter` stand.
-#[derive(Clone, Copy, Debug, PartialEq, Eq)]
-pub struct StepBeginFields {
-    pub processor: Number,
-    pub step: Number,
-    pub function: Number,
-}
-
-impl StepBeginFields {
-    ghost use Rattle.ld_kernel.specs.Fields.{IsStepBegin};
-    ghost use Rattle.ld_kernel.specs.Events.{begin_said};
-
-    /// The fields that its format has.
-    ///
-    /// # Errors
-    ///
-    /// The first field that it lacks.
-    pub fn of(format: &Format<'_>) -> Result<StepBeginFields, FieldFault>
-        ensures { IfOk result (λ fields. IsStepBegin (map plain format.now.fields.items) fields) }
-    {
-        let processor = number(format, "cpu")?;
-        let step = number(format, "idx")?;
-        let function = number(format, "fun")?;
-        Ok(StepBeginFields {
-            processor,
-            step,
-            function,
-        })
-    }
-
-    /// What the bytes of such an event tell.
-    ///
-    /// # Errors
-    ///
-    /// What is wrong with them.
-    #[tactic(auto, unfolding(crate::specs::Events::begin_said))]
-    pub fn read(&self, bytes: &[u8]) -> Result<StepBegin, Wrong>
-        ensures { result ≡ begin_said self.now bytes.now }
-    {
-        if bytes.len()
-            < self
-                .processor
-                .end()
-                .max(self.step.end())
-                .max(self.function.end())
-        {
-            return Err(Wrong::Short);
-        }
-        let processor = word(self.processor.read(bytes))?;
-        let step = count(self.step.read(bytes))?;
-        Ok(StepBegin {
-            processor,
-            step,
-            function: self.function.read(bytes),
-        })
-    }
-}
-
-/// Where the fields of `cpuhp_exit` stand.
-#[derive(Clone, Copy, Debug, PartialEq, Eq)]
-pub struct StepEndFields {
-    pub processor: Number,
-    pub step: Number,
-    pub status: Number,
-}
-
-impl StepEndFields {
-    ghost use Rattle.ld_kernel.specs.Fields.{IsStepEnd};
-    ghost use Rattle.ld_kernel.specs.Events.{end_said};
-
-    /// The fields that its format has.
-    ///
-    /// # Errors
-    ///
-    /// The first field that it lacks.
-    pub fn of(format: &Format<'_>) -> Result<StepEndFields, FieldFault>
-        ensures { IfOk result (λ fields. IsStepEnd (map plain format.now.fields.items) fields) }
-    {
-        let processor = number(format, "cpu")?;
-        let step = number(format, "idx")?;
-        let status = number(format, "ret")?;
-        Ok(StepEndFields {
-            processor,
-            step,
-            status,
-        })
-    }
-
-    /// What the bytes of such an event tell.
-    ///
-    /// # Errors
-    ///
-    /// What is wrong with them.
-    #[tactic(auto, unfolding(crate::specs::Events::end_said))]
-    pub fn read(&self, bytes: &[u8]) -> Result<StepEnd, Wrong>
-        ensures { result ≡ end_said self.now bytes.now }
-    {
-        if bytes.len()
-            < self
-                .processor
-                .end()
-                .max(self.step.end())
-                .max(self.status.end())
-        {
-            return Err(Wrong::Short);
-        }
-        let processor = word(self.processor.read(bytes))?;
-        let step = count(self.step.read(bytes))?;
-        let status = word(self.status.read(bytes))?;
-        Ok(StepEnd {
-            processor,
-            step,
-            status: status.cast_signed(),
         })
     }
 }

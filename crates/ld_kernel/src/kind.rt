@@ -3,11 +3,9 @@ ghost use Rattle.std.specs.Prelude.{◌≡◌, map, IfOk, Some};
 ghost use Rattle.ld_layout.specs.Fields.{plain};
 ghost use Rattle.ld_kernel.specs.Fields.{AreFields, HasHead, number_named};
 
-use crate::fields::{
-    AcquireFields, FieldFault, ReleaseFields, StepBeginFields, StepEndFields, StockAcquireFields,
-    number,
-};
+use crate::fields::{AcquireFields, FieldFault, ReleaseFields, StockAcquireFields, number};
 use crate::number::{Number, Width};
+use crate::steps::{StepBeginFields, StepEndFields};
 use ld_layout::Format;
 
 /// An event by its name in tracefs.

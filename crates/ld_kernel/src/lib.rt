@@ -7,15 +7,15 @@ mod fields;
 mod kind;
 mod located;
 mod number;
+mod steps;
 mod wrong;
 
 pub use decode::event_of;
 pub use event::{
     Acquire, Context, Event, Mode, Place, Release, StepBegin, StepEnd, StockAcquire, What,
 };
-pub use fields::{
-    AcquireFields, FieldFault, ReleaseFields, StepBeginFields, StepEndFields, StockAcquireFields,
-};
+pub use fields::{AcquireFields, FieldFault, ReleaseFields, StockAcquireFields};
 pub use kind::{Fields, Kind, Sort};
 pub use number::{Number, Width};
+pub use steps::{StepBeginFields, StepEndFields};
 pub use wrong::Wrong;

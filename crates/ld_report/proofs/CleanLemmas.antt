@@ -9,7 +9,7 @@ use Rattle.ld_trace.specs.Sources.{PlainSource}
 use Rattle.ld_rules.specs.declared.outcome.Outcome.{Outcome}
 use Rattle.ld_rules.specs.declared.outcome.Outcome.TheVariants.{Read, Refused}
 use Rattle.ld_rules.specs.Outcome.{name_of, outcome}
-use Rattle.ld_book.specs.declared.totals.Totals.{Totals}
+use Rattle.ld_book.specs.declared.listing.Totals.{Totals}
 use Rattle.ld_book.specs.Findings.{AreFindings, IsConflictRow, IsCycleRow, IsForbiddenRow, PlainFindings}
 use Rattle.ld_book.specs.Totals.{totals}
 use Rattle.ld_book.specs.Violations.{HasViolation, IsViolation, Violation}

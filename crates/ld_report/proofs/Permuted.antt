@@ -3,7 +3,7 @@ use Rattle.std.proofs.Common.{◌≡◌, ◌<◌, ◌++◌, ℕ, List, subst, sy
 use Rattle.std.proofs.lemmas.List.Sorted.{IsPermutation-sym, IsPermutation-trans}
 use Rattle.std.specs.List.Sorted.{IsPermutation}
 use Rattle.ld_trace.specs.Sources.{PlainSource}
-use Rattle.ld_book.specs.declared.totals.Totals.{Totals}
+use Rattle.ld_book.specs.declared.listing.Totals.{Totals}
 use Rattle.ld_book.specs.Totals.{refused_count}
 use Rattle.ld_book.specs.Violations.{HasViolation}
 use Rattle.ld_book.proofs.PermutedLemmas.{findings-permuted, has_violation-permuted, totals-permuted}

@@ -7,7 +7,7 @@ use Rattle.ld_trace.specs.Sources.{PlainSource}
 use Rattle.ld_rules.specs.declared.outcome.Outcome.{Outcome}
 use Rattle.ld_rules.specs.declared.outcome.Outcome.TheVariants.{Read, Refused}
 use Rattle.ld_rules.specs.Outcome.{outcome}
-use Rattle.ld_book.specs.declared.totals.Totals.{Totals}
+use Rattle.ld_book.specs.declared.listing.Totals.{Totals}
 use Rattle.ld_book.specs.Findings.{AreFindings, PlainFindings}
 use Rattle.ld_book.specs.Totals.{is_refused, refused_count, totals}
 use Rattle.ld_book.proofs.RisingLemmas.{AreApart}

@@ -9,7 +9,7 @@ use Rattle.ld_rules.specs.declared.outcome.Outcome.{Outcome}
 use Rattle.ld_rules.specs.declared.outcome.Outcome.TheVariants.{Read, Refused}
 use Rattle.ld_rules.specs.declared.outcome.Witness.{Witness}
 use Rattle.ld_rules.specs.Outcome.{name_of, outcome}
-use Rattle.ld_book.specs.declared.totals.Totals.{Totals}
+use Rattle.ld_book.specs.declared.listing.Totals.{Totals}
 use Rattle.ld_book.specs.Findings.{AreFindings, PlainConflictRow, PlainCycleRow, PlainFindings, PlainForbiddenRow}
 use Rattle.ld_book.specs.Totals.{totals}
 use Rattle.ld_batch.specs.Batch.{AreRising}

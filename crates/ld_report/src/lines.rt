@@ -13,7 +13,7 @@ ghost use Rattle.ld_report.specs.Report.{summary_line, via};
 
 use crate::labels::label;
 use itoa::Buffer;
-use ld_book::{ClassName, ConflictRow, CycleRow, ForbiddenRow, Totals, Traces, Walk};
+use ld_book::{ClassName, ConflictRow, CycleRow, ForbiddenRow, Names, Totals, Traces};
 use ld_rules::{TraceFault, Witness};
 use ld_trace::State;
 use std::alloc::AllocError;
@@ -90,7 +90,7 @@ fn write_inversion(
     write_name(text, "inversion ", row.from)?;
     write_name(text, " -> ", row.to)?;
     write_place(text, " at ", traces, row.at)?;
-    write_walk(text, &row.via)
+    write_walk(text, &row.via.names())
 }
 
 /// Writes a class with both bits of a state.
@@ -288,7 +288,7 @@ fn write_class(
 }
 
 /// Writes the names of a walk, and ends the line.
-fn write_walk(text: &mut Vec<u8>, walk: &Walk<'_, '_>) -> Result<(), AllocError>
+fn write_walk(text: &mut Vec<u8>, walk: &Names<'_, '_>) -> Result<(), AllocError>
     ensures { OnOk result (text.new.items ≡ text.old.items ++ via walk.now) }
 {
     write_bytes(text, " via ", b"")?;
@@ -301,7 +301,7 @@ fn write_walk(text: &mut Vec<u8>, walk: &Walk<'_, '_>) -> Result<(), AllocError>
 }
 
 /// Writes the names of a walk behind the first, each behind an arrow.
-fn write_steps(text: &mut Vec<u8>, walk: &Walk<'_, '_>) -> Result<(), AllocError>
+fn write_steps(text: &mut Vec<u8>, walk: &Names<'_, '_>) -> Result<(), AllocError>
     ensures { OnOk result (text.new.items ≡ text.old.items ++ steps (drop 1 walk.now)) }
 {
     for place in 1..walk.len() {

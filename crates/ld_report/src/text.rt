@@ -2,7 +2,6 @@
 ghost use Rattle.std.specs.Prelude.{◌≡◌, ◌++◌, ◌↔◌, IfOk, OnOk, flat_map, map};
 ghost use Rattle.ld_batch.specs.Batch.{AreOutcomes, sources_of};
 ghost use Rattle.ld_book.specs.Findings.{plain_conflict_row, plain_cycle_row, plain_findings};
-ghost use Rattle.ld_book.specs.Findings.{plain_forbidden_row};
 ghost use Rattle.ld_book.specs.Violations.{HasViolation};
 ghost use Rattle.ld_report.specs.Report.{IsReport, SaysClean, conflict_line, cycle_line};
 ghost use Rattle.ld_report.specs.Report.{forbidden_line, last_line, refused_lines, summary_line};
@@ -12,7 +11,7 @@ use crate::lines::{
     begin_forbidden, write_conflict, write_cycle, write_forbidden, write_last, write_refused,
     write_summary,
 };
-use ld_book::{Book, ConflictRow, CycleRow, Findings, ForbiddenRow, Totals, Traces};
+use ld_book::{Book, ConflictRow, CycleRow, Findings, ForbiddenRow, ForbiddenRows, Totals, Traces};
 use ld_rules::{Listed, Outcome};
 use std::alloc::{AllocError, Global};
 
@@ -91,7 +90,8 @@ fn write_violations(
 {
     write_cycles(text, traces, findings.cycles.items())?;
     write_conflicts(text, traces, findings.conflicts.items())?;
-    write_all_forbidden(alloc, text, traces, findings.forbidden.items())
+    write_all_forbidden(alloc, text, traces, &findings.forbidden.hard)?;
+    write_all_forbidden(alloc, text, traces, &findings.forbidden.soft)
 }
 
 /// Writes the dependencies on cycles.
@@ -124,21 +124,22 @@ fn write_conflicts(
     Ok(())
 }
 
-/// Writes the forbidden walks.
+/// Writes the forbidden walks of a state.
 fn write_all_forbidden(
     alloc: Global,
     text: &mut Vec<u8>,
     traces: &Traces<'_, '_>,
-    walks: &[ForbiddenRow<'_, '_>],
+    walks: &ForbiddenRows<'_, '_>,
 ) -> Result<(), AllocError>
     ensures { OnOk result (text.new.items ≡ text.old.items ++
-        flat_map (forbidden_line traces.now) (map plain_forbidden_row walks.now)) }
+        flat_map (forbidden_line traces.now) walks.now) }
 {
     let mut begin = Vec::new(alloc);
-    let mut before = None;
-    for walk in walks {
-        begin_forbidden(&mut begin, traces, before, walk)?;
-        write_forbidden(text, traces, &begin, walk)?;
+    let mut before: Option<ForbiddenRow<'_, '_>> = None;
+    for place in 0..walks.len() {
+        let walk = walks.row(place);
+        begin_forbidden(&mut begin, traces, before.as_ref(), &walk)?;
+        write_forbidden(text, traces, &begin, &walk)?;
         before = Some(walk);
     }
     Ok(())
@@ -149,6 +150,6 @@ fn count_of(findings: &Findings<'_, '_>) -> u64
     ensures { result ≡ violations (plain_findings findings.now) }
 {
     let conflicts = findings.conflicts.items().len();
-    let forbidden = findings.forbidden.items().len();
+    let forbidden = findings.forbidden.hard.len() + findings.forbidden.soft.len();
     (findings.cycles.items().len() + conflicts + forbidden) as u64
 }

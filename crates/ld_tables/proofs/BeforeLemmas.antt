@@ -4,8 +4,8 @@ use Rattle.std.proofs.lemmas.List.{length-take, length-take-le, length_push, tak
 use Rattle.std.proofs.lemmas.List.Elements.{All-weaker}
 use Rattle.std.specs.List.{All}
 use Rattle.ld_tables.specs.declared.edges.EdgeFact.{EdgeFact}
-use Rattle.ld_tables.specs.declared.locks.Before.{Before}
-use Rattle.ld_tables.specs.declared.words.Telling.{Telling}
+use Rattle.ld_tables.specs.declared.locks.LocksStart.{LocksStart}
+use Rattle.ld_tables.specs.declared.masks.NewEdges.{NewEdges}
 use Rattle.ld_tables.specs.Inner.Chains.{KeptChains, chains_of}
 use Rattle.ld_tables.specs.Inner.Edges.{KeptEdges, edges_of}
 use Rattle.ld_tables.specs.Inner.Stacks.{PlainStack}
@@ -13,12 +13,12 @@ use Rattle.ld_tables.specs.Inner.Locks.{AreTied, HasItsEdges, HasItsMasks, IsAtS
 use Rattle.ld_tables.proofs.LockLemmas.{HasItsEdges-kept}
 use Rattle.ld_tables.proofs.RoomLemmas.{complete_then, start_then}
 
-module _ (before : Before) (chains : List (List ℕ)) (told : List ℕ) (tellings : List Telling) (is : IsAtStart before chains told tellings) where
+module _ (before : LocksStart) (chains : List (List ℕ)) (told : List ℕ) (tellings : List NewEdges) (is : IsAtStart before chains told tellings) where
   -- more that is told, behind what is there
-  pub before_same : (new : List Telling) → take (length tellings) new ≡ tellings → take before.edges new ≡ take before.edges tellings
+  pub before_same : (new : List NewEdges) → take (length tellings) new ≡ tellings → take before.edges new ≡ take before.edges tellings
   before_same new first = sym (take-take before.edges (length tellings) new is.edges_within) ∙ ap (take before.edges) first
 
-  pub before_more : (new : List Telling) → take (length tellings) new ≡ tellings → IsAtStart before chains told new
+  pub before_more : (new : List NewEdges) → take (length tellings) new ≡ tellings → IsAtStart before chains told new
   before_more new first = record {
     edges_within = let within = is.edges_within in omega (arith, length-take (length tellings) new, ap length first);
     told_within = is.told_within;
@@ -65,7 +65,7 @@ tied_none chains told edges complete = record {
 }
 
 -- what came since is taken back, and room is made where nothing is left
-pub undone : (before : Before) (chains : KeptChains) (told : List ℕ) (edges : KeptEdges) → IsAtStart before (chains_of chains.links) told edges.tellings →
+pub undone : (before : LocksStart) (chains : KeptChains) (told : List ℕ) (edges : KeptEdges) → IsAtStart before (chains_of chains.links) told edges.tellings →
     HasItsMasks (chains_of chains.links) chains.masks edges.words → (stacks : List PlainStack) (numbers : List ℕ) (left : KeptEdges) → stacks ≡ [] →
     numbers ≡ take before.told told → left ≡ record edges { tellings = take before.edges edges.tellings } → (now : KeptChains) (last : KeptEdges) → (0 < length numbers → now ≡ chains) →
     last.tellings ≡ left.tellings → (HasItsMasks (chains_of chains.links) chains.masks left.words → HasItsMasks (chains_of now.links) now.masks last.words) →
@@ -93,7 +93,7 @@ undone before chains told edges is masked stacks numbers left none numbers_are l
         (subst (λ ts. All (λ number. HasItsEdges (chains_of chains.links) (edges_of ts) number) (take before.told told)) (sym left_at) is.complete)
 
 -- a trace begins here
-pub before_now : (chains : List (List ℕ)) (told : List ℕ) (tellings : List Telling) → All (λ number. HasItsEdges chains (edges_of tellings) number) told → (before : Before) →
+pub before_now : (chains : List (List ℕ)) (told : List ℕ) (tellings : List NewEdges) → All (λ number. HasItsEdges chains (edges_of tellings) number) told → (before : LocksStart) →
     before.edges ≡ length tellings → before.told ≡ length told → IsAtStart before chains told tellings
 before_now chains told tellings complete before all_edges all_told = record {
   edges_within = omega arith;

@@ -11,12 +11,12 @@ use Rattle.std.specs.Int.{bit_not}
 use Rattle.std.specs.List.{AllPairs, list_any}
 use Rattle.ld_class.specs.Blocks.{is_on}
 use Rattle.ld_class.proofs.BlockLemmas.{is_on-left}
-use Rattle.ld_tables.specs.declared.words.Telling.{Telling}
-use Rattle.ld_tables.specs.declared.words.Word.{Word}
+use Rattle.ld_tables.specs.declared.masks.NewEdges.{NewEdges}
+use Rattle.ld_tables.specs.declared.masks.Word.{Word}
 use Rattle.ld_tables.specs.Inner.Edges.{AreTold, has_told, word_at}
 
 -- one telling more
-pub off-more : (tellings : List Telling) (i : ℕ) (t : Telling) → i < length tellings → get_or tellings i t ≡ t → (before told : List ℕ) → t.number < length told → t.bits < 2 ^ 64
+pub off-more : (tellings : List NewEdges) (i : ℕ) (t : NewEdges) → i < length tellings → get_or tellings i t ≡ t → (before told : List ℕ) → t.number < length told → t.bits < 2 ^ 64
     → ((n k : ℕ) → n < length told → k < 64 → is_on (get_or told n 0) k ≡ (is_on (get_or before n 0) k && not (has_told (take i tellings) n k)))
     → (n k : ℕ) → n < length told → k < 64
     → is_on (get_or (set told t.number (bit_and (get_or told t.number 0) (bit_not w64 t.bits))) n 0) k ≡ (is_on (get_or before n 0) k && not (has_told (take (i + 1) tellings) n k))
@@ -25,7 +25,7 @@ off-more tellings i t within is before told inside small so_far n k low place = 
     further : has_told (take (i + 1) tellings) n k ≡ (has_told (take i tellings) n k || (nat_eq n t.number && is_on t.bits k))
     further =
         ap (λ ts. has_told ts n k) (take_more tellings i t within ∙ ap (λ x. take i tellings ++ x ∷ []) is)
-        ∙ list_any-append (λ (s : Telling). nat_eq n s.number && is_on s.bits k) (take i tellings) (t ∷ [])
+        ∙ list_any-append (λ (s : NewEdges). nat_eq n s.number && is_on s.bits k) (take i tellings) (t ∷ [])
         ∙ ap (λ b. has_told (take i tellings) n k || b) (or-false (nat_eq n t.number && is_on t.bits k))
 
     both : (a b c : Bool) → ((a && not b) && not c) ≡ (a && not (b || c))
@@ -50,19 +50,19 @@ off-more tellings i t within is before told inside small so_far n k low place = 
         ∙ ap (λ b. is_on (get_or before n 0) k && not b) (sym further)
 
 -- the first of what was told
-module _ (words : List Word) (told : List ℕ) (tellings : List Telling) (are : AreTold words told tellings) (count : ℕ) (left : List ℕ) (many : length left ≡ length told)
+module _ (words : List Word) (told : List ℕ) (tellings : List NewEdges) (are : AreTold words told tellings) (count : ℕ) (left : List ℕ) (many : length left ≡ length told)
     (off : (n k : ℕ) → n < length told → k < 64 → is_on (get_or left n 0) k ≡ (is_on (get_or told n 0) k && not (has_told (drop count tellings) n k))) where
   split : (n k : ℕ) → has_told tellings n k ≡ (has_told (take count tellings) n k || has_told (drop count tellings) n k)
   split n k =
       ap (λ ts. has_told ts n k) (sym (take-append-drop count tellings))
-      ∙ list_any-append (λ (t : Telling). nat_eq n t.number && is_on t.bits k) (take count tellings) (drop count tellings)
+      ∙ list_any-append (λ (t : NewEdges). nat_eq n t.number && is_on t.bits k) (take count tellings) (drop count tellings)
 
   -- a bit that was told before isn't told again
   not_again : (n k : ℕ) → k < 64 → has_told (take count tellings) n k ≡ true → (b : Bool) → has_told (drop count tellings) n k ≡ b → b ≡ false
   not_again n k place first false is = refl
   not_again n k place first true is =
-      let one = Any-from_list_any (λ (t : Telling). nat_eq n t.number && is_on t.bits k) (take count tellings) first in
-      let other = Any-from_list_any (λ (t : Telling). nat_eq n t.number && is_on t.bits k) (drop count tellings) is in
+      let one = Any-from_list_any (λ (t : NewEdges). nat_eq n t.number && is_on t.bits k) (take count tellings) first in
+      let other = Any-from_list_any (λ (t : NewEdges). nat_eq n t.number && is_on t.bits k) (drop count tellings) is in
       let s = one.1 in
       let parts = and_parts (nat_eq n s.number) (is_on s.bits k) one.4 in
       let more = and_parts (nat_eq n other.1.number) (is_on other.1.bits k) other.4 in
@@ -71,18 +71,18 @@ module _ (words : List Word) (told : List ℕ) (tellings : List Telling) (are : 
       let at : get_or tellings one.0 s ≡ s = sym (get_or-take count tellings one.0 s low) ∙ one.3 in
       let there : get_or tellings (count + other.0) s ≡ other.1 = sym (get_or-drop count tellings other.0 s) ∙ get_or_default (drop count tellings) other.0 s other.1 other.2 ∙ other.3 in
       let apart = are.apart one.0 (count + other.0) s (omega (arith, low)) within k place
-      (ap (λ (t : Telling). t.number) at ∙ sym (eqb-true n s.number parts.0) ∙ eqb-true n other.1.number more.0 ∙ sym (ap (λ (t : Telling). t.number) there))
-      (ap (λ (t : Telling). is_on t.bits k) at ∙ parts.1) in
-      absurd (true≢false (sym more.1 ∙ sym (ap (λ (t : Telling). is_on t.bits k) there) ∙ apart))
+      (ap (λ (t : NewEdges). t.number) at ∙ sym (eqb-true n s.number parts.0) ∙ eqb-true n other.1.number more.0 ∙ sym (ap (λ (t : NewEdges). t.number) there))
+      (ap (λ (t : NewEdges). is_on t.bits k) at ∙ parts.1) in
+      absurd (true≢false (sym more.1 ∙ sym (ap (λ (t : NewEdges). is_on t.bits k) there) ∙ apart))
 
   pub told-cut : AreTold words left (take count tellings)
   told-cut = record {
     distinct = are.distinct;
     low = are.low;
     many = many ∙ are.many;
-    within = All-take (λ (t : Telling). t.number < length words) count tellings are.within;
-    each = All-take (λ (t : Telling). word_at words t.number ≡ t.word) count tellings are.each;
-    some = All-take (λ (t : Telling). 0 < t.bits) count tellings are.some;
+    within = All-take (λ (t : NewEdges). t.number < length words) count tellings are.within;
+    each = All-take (λ (t : NewEdges). word_at words t.number ≡ t.word) count tellings are.each;
+    some = All-take (λ (t : NewEdges). 0 < t.bits) count tellings are.some;
     noted = λ n k within place.
         off n k (omega (arith, within, are.many)) place
         ∙ ap (λ b. b && not (has_told (drop count tellings) n k)) (are.noted n k within place ∙ split n k)
@@ -91,7 +91,7 @@ module _ (words : List Word) (told : List ℕ) (tellings : List Telling) (are : 
         let low : j < count = omega (arith, within, length-take count tellings) in
         let inside : j < length tellings = omega (arith, within, length-take count tellings) in
         subst (λ s. (k : ℕ) → k < 64 → s.number ≡ (get_or (take count tellings) j d).number → is_on s.bits k ≡ true → is_on (get_or (take count tellings) j d).bits k ≡ false) (sym (get_or-take count tellings i d (omega (arith, low, before))))
-        (subst (λ (t : Telling). (k : ℕ) → k < 64 → (get_or tellings i d).number ≡ t.number → is_on (get_or tellings i d).bits k ≡ true → is_on t.bits k ≡ false) (sym (get_or-take count tellings j d low)) (are.apart i j d before inside));
+        (subst (λ (t : NewEdges). (k : ℕ) → k < 64 → (get_or tellings i d).number ≡ t.number → is_on (get_or tellings i d).bits k ≡ true → is_on t.bits k ≡ false) (sym (get_or-take count tellings j d low)) (are.apart i j d before inside));
   }
     where
       first : (a b : Bool) → (a ≡ true → b ≡ false) → ((a || b) && not b) ≡ a

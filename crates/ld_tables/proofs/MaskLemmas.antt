@@ -12,8 +12,8 @@ use Rattle.ld_class.specs.Blocks.{bits_on, classes_in}
 use Rattle.ld_class.proofs.BlockLemmas.{any-bit, any-bits-set}
 use Rattle.ld_class.proofs.Mapped.{list_any-map}
 use Rattle.ld_rules.proofs.SameLemmas.{fails_each}
-use Rattle.ld_tables.specs.declared.words.Mask.{Mask}
-use Rattle.ld_tables.specs.declared.words.Word.{Word}
+use Rattle.ld_tables.specs.declared.masks.Mask.{Mask}
+use Rattle.ld_tables.specs.declared.masks.Word.{Word}
 use Rattle.ld_tables.specs.Inner.Edges.{AreMasks, AreMore, any_bit, classes_of, word_at}
 use Rattle.ld_tables.proofs.TellingLemmas.{any-flat_map}
 

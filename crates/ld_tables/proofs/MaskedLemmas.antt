@@ -8,8 +8,8 @@ use Rattle.std.proofs.lemmas.List.{drop-append-le, get_or-set_other, get_or_appe
 use Rattle.std.proofs.lemmas.List.{same_from_push, take-append-le, take_all}
 use Rattle.std.proofs.lemmas.List.Elements.{All-head, All-tail}
 use Rattle.ld_tables.specs.declared.chains.Link.{Link}
-use Rattle.ld_tables.specs.declared.words.Mask.{Mask}
-use Rattle.ld_tables.specs.declared.words.Word.{Word}
+use Rattle.ld_tables.specs.declared.masks.Mask.{Mask}
+use Rattle.ld_tables.specs.declared.masks.Word.{Word}
 use Rattle.ld_tables.specs.declared.chains.Run.{Run}
 use Rattle.ld_tables.specs.Inner.Chains.{IsRun, KeptChains, chain_before, chains_of, link_with, masks_in}
 use Rattle.ld_tables.specs.Inner.Edges.{AreMore, AreMasks}

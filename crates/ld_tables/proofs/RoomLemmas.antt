@@ -3,8 +3,8 @@ use Rattle.std.proofs.Common.{◌≡◌, ◌<◌, ◌∷◌, [], ◌++◌, List,
 use Rattle.std.proofs.lemmas.List.{length-set, length_push, take_all}
 use Rattle.std.specs.List.{All}
 use Rattle.ld_tables.specs.declared.edges.EdgeFact.{EdgeFact}
-use Rattle.ld_tables.specs.declared.locks.Before.{Before}
-use Rattle.ld_tables.specs.declared.words.Telling.{Telling}
+use Rattle.ld_tables.specs.declared.locks.LocksStart.{LocksStart}
+use Rattle.ld_tables.specs.declared.masks.NewEdges.{NewEdges}
 use Rattle.ld_tables.specs.Inner.Chains.{KeptChains, chains_of}
 use Rattle.ld_tables.specs.Inner.Edges.{edges_of}
 use Rattle.ld_tables.specs.Inner.Stacks.{PlainStack, empty_stack}
@@ -42,7 +42,7 @@ module _ (old new : KeptChains) (told : List ℕ) (same : 0 < length told → ne
       subst (All (λ number. HasItsEdges (chains_of new.links) edges number)) all
       (told_none (λ chains number. HasItsEdges chains edges number) (length told) told same (subst (All (λ number. HasItsEdges (chains_of old.links) edges number)) (sym all) are))
 
-  pub start_then : (before : Before) (tellings : List Telling) → IsAtStart before (chains_of old.links) told tellings → IsAtStart before (chains_of new.links) told tellings
+  pub start_then : (before : LocksStart) (tellings : List NewEdges) → IsAtStart before (chains_of old.links) told tellings → IsAtStart before (chains_of new.links) told tellings
   start_then before tellings is = record {
     edges_within = is.edges_within;
     told_within = is.told_within;

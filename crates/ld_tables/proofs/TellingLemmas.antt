@@ -18,8 +18,8 @@ use Rattle.ld_class.proofs.BlockLemmas.{any-bits_on, bits_on-below, bits_on-left
 use Rattle.ld_class.proofs.Mapped.{list_any-map}
 use Rattle.ld_rules.proofs.SameLemmas.{filter-alike, fold-new}
 use Rattle.ld_tables.specs.declared.edges.EdgeFact.{EdgeFact}
-use Rattle.ld_tables.specs.declared.words.Telling.{Telling}
-use Rattle.ld_tables.specs.declared.words.Word.{Word}
+use Rattle.ld_tables.specs.declared.masks.NewEdges.{NewEdges}
+use Rattle.ld_tables.specs.declared.masks.Word.{Word}
 use Rattle.ld_tables.specs.Inner.Edges.{AreTold, edge_to, edges_in, edges_of, has_told, same_pair, with_edge_fact, word_at}
 use Rattle.ld_tables.proofs.WordLemmas.{same_number}
 
@@ -40,14 +40,14 @@ same_place block k j = same_test (64 * block + k == 64 * block + j) (nat_eq k j)
     (λ is. let same = eqb-true k j is in eq-eqb (64 * block + k) (64 * block + j) (omega (arith, same)))
 
 -- Whether a dependency was told, by its word.
-module _ (words : List Word) (told : List ℕ) (tellings : List Telling) (are : AreTold words told tellings) (n : ℕ) (inside : n < length words) (place line : ℕ) (low : place < 64) where
+module _ (words : List Word) (told : List ℕ) (tellings : List NewEdges) (are : AreTold words told tellings) (n : ℕ) (inside : n < length words) (place line : ℕ) (low : place < 64) where
   abbrev word : Word
   word = word_at words n
 
   abbrev edge : EdgeFact
   edge = edge_to word.to line (64 * word.block + place)
 
-  told-in : (t : Telling) → t.number < length words → word_at words t.number ≡ t.word → list_any (same_pair edge) (edges_in t) ≡ (nat_eq n t.number && is_on t.bits place)
+  told-in : (t : NewEdges) → t.number < length words → word_at words t.number ≡ t.word → list_any (same_pair edge) (edges_in t) ≡ (nat_eq n t.number && is_on t.bits place)
   told-in t within is =
       list_any-map (edge_to t.word.to t.line) (same_pair edge) (classes_in t.word.block t.bits)
       ∙ list_any-map (λ j. 64 * t.word.block + j) (λ from. same_pair edge (edge_to t.word.to t.line from)) (bits_on t.bits)
@@ -75,12 +75,12 @@ module _ (words : List Word) (told : List ℕ) (tellings : List Telling) (are : 
               let same : word ≡ t.word = (λ i. record { block = block i; to = eqb-true word.to t.word.to parts.1 i }) in
               absurd (true≢false (sym (eq-eqb n t.number (same_number words are.distinct n t.number inside within (same ∙ sym is))) ∙ other))
 
-  told-each : (ts : List Telling) → All (λ (t : Telling). t.number < length words) ts → All (λ (t : Telling). word_at words t.number ≡ t.word) ts → list_any (same_pair edge) (edges_of ts) ≡ has_told ts n place
+  told-each : (ts : List NewEdges) → All (λ (t : NewEdges). t.number < length words) ts → All (λ (t : NewEdges). word_at words t.number ≡ t.word) ts → list_any (same_pair edge) (edges_of ts) ≡ has_told ts n place
   told-each [] within each = refl
   told-each (t ∷ ts) within each =
       list_any-append (same_pair edge) (edges_in t) (edges_of ts)
-      ∙ (λ i. told-in t (All-head (λ (t : Telling). t.number < length words) t ts within) (All-head (λ (t : Telling). word_at words t.number ≡ t.word) t ts each) i
-      || told-each ts (All-tail (λ (t : Telling). t.number < length words) t ts within) (All-tail (λ (t : Telling). word_at words t.number ≡ t.word) t ts each) i)
+      ∙ (λ i. told-in t (All-head (λ (t : NewEdges). t.number < length words) t ts within) (All-head (λ (t : NewEdges). word_at words t.number ≡ t.word) t ts each) i
+      || told-each ts (All-tail (λ (t : NewEdges). t.number < length words) t ts within) (All-tail (λ (t : NewEdges). word_at words t.number ≡ t.word) t ts each) i)
 
   pub is-told : list_any (same_pair edge) (edges_of tellings) ≡ is_on (get_or told n 0) place
   is-told = told-each tellings are.within are.each ∙ sym (are.noted n place inside low)
@@ -94,7 +94,7 @@ filter-map p f (x ∷ xs) = by (p (f x)) (filter-map p f xs)
     by false rest = rest
 
 -- The dependencies of a mask: those that weren't told come behind the others.
-module _ (words : List Word) (told : List ℕ) (tellings : List Telling) (are : AreTold words told tellings) (n : ℕ) (inside : n < length words) (bits line : ℕ) (small : get_or told n 0 < 2 ^ 64) where
+module _ (words : List Word) (told : List ℕ) (tellings : List NewEdges) (are : AreTold words told tellings) (n : ℕ) (inside : n < length words) (bits line : ℕ) (small : get_or told n 0 < 2 ^ 64) where
   abbrev those : Word
   those = word_at words n
 
@@ -131,7 +131,7 @@ module _ (words : List Word) (told : List ℕ) (tellings : List Telling) (are : 
       untold e = not (list_any (same_pair e) (edges_of tellings))
 
   -- what is told once these bits are
-  abbrev telling : Telling
+  abbrev telling : NewEdges
   telling = record { number = n; word = those; bits = left; line = line }
 
   pub told-mask : 0 < left → AreTold words (set told n (bit_or known left)) (tellings ++ telling ∷ [])
@@ -139,18 +139,18 @@ module _ (words : List Word) (told : List ℕ) (tellings : List Telling) (are : 
     distinct = are.distinct;
     low = are.low;
     many = length-set told n (bit_or known left) ∙ are.many;
-    within = All-push (λ (t : Telling). t.number < length words) tellings telling are.within inside;
-    each = All-push (λ (t : Telling). word_at words t.number ≡ t.word) tellings telling are.each refl;
-    some = All-push (λ (t : Telling). 0 < t.bits) tellings telling are.some some;
+    within = All-push (λ (t : NewEdges). t.number < length words) tellings telling are.within inside;
+    each = All-push (λ (t : NewEdges). word_at words t.number ≡ t.word) tellings telling are.each refl;
+    some = All-push (λ (t : NewEdges). 0 < t.bits) tellings telling are.some some;
     noted = λ m place within low. noted m place within low (cases_eq m n);
-    apart = all_pairs_push (λ (s t : Telling). (k : ℕ) → k < 64 → s.number ≡ t.number → is_on s.bits k ≡ true → is_on t.bits k ≡ false) tellings telling are.apart
+    apart = all_pairs_push (λ (s t : NewEdges). (k : ℕ) → k < 64 → s.number ≡ t.number → is_on s.bits k ≡ true → is_on t.bits k ≡ false) tellings telling are.apart
         (λ k d within place low same on. is_on-left bits known place small low ∙ none place (was k d within place low same on) (is_on bits place));
   }
     where
-      was : (k : ℕ) (d : Telling) → k < length tellings → (place : ℕ) → place < 64 → (get_or tellings k d).number ≡ n → is_on (get_or tellings k d).bits place ≡ true → is_on known place ≡ true
+      was : (k : ℕ) (d : NewEdges) → k < length tellings → (place : ℕ) → place < 64 → (get_or tellings k d).number ≡ n → is_on (get_or tellings k d).bits place ≡ true → is_on known place ≡ true
       was k d within place low same on =
           are.noted n place inside low
-          ∙ list_any_at (λ (t : Telling). nat_eq n t.number && is_on t.bits place) tellings k d within (and_from (nat_eq n (get_or tellings k d).number) (is_on (get_or tellings k d).bits place) (eq-eqb n (get_or tellings k d).number (sym same)) on)
+          ∙ list_any_at (λ (t : NewEdges). nat_eq n t.number && is_on t.bits place) tellings k d within (and_from (nat_eq n (get_or tellings k d).number) (is_on (get_or tellings k d).bits place) (eq-eqb n (get_or tellings k d).number (sym same)) on)
 
       none : (place : ℕ) → is_on known place ≡ true → (b : Bool) → (b && not (is_on known place)) ≡ false
       none place on true = ap not on
@@ -162,14 +162,14 @@ module _ (words : List Word) (told : List ℕ) (tellings : List Telling) (are : 
           ∙ is_on-or known left place
           ∙ (λ i. are.noted n place inside low i || sym (or-false (is_on left place)) i)
           ∙ ap (λ b. has_told tellings n place || ((b && is_on left place) || false)) (sym (eq-eqb n n refl))
-          ∙ sym (list_any-append (λ (t : Telling). nat_eq n t.number && is_on t.bits place) tellings (telling ∷ []))
+          ∙ sym (list_any-append (λ (t : NewEdges). nat_eq n t.number && is_on t.bits place) tellings (telling ∷ []))
           ∙ ap (λ k. has_told (tellings ++ telling ∷ []) k place) (sym here)
       noted m place within low (inr other) =
           ap (λ bits. is_on bits place) (get_or-set_other told n m (bit_or known left) 0 other)
           ∙ are.noted m place within low
           ∙ sym (or-false (has_told tellings m place))
           ∙ ap (λ b. has_told tellings m place || ((b && is_on left place) || false)) (sym (ne_eqb m n other))
-          ∙ sym (list_any-append (λ (t : Telling). nat_eq m t.number && is_on t.bits place) tellings (telling ∷ []))
+          ∙ sym (list_any-append (λ (t : NewEdges). nat_eq m t.number && is_on t.bits place) tellings (telling ∷ []))
 
   pub edges-mask : edges_of (tellings ++ telling ∷ []) ≡ fold with_edge_fact (edges_of tellings) (map (edge_to those.to line) (classes_in those.block bits))
   edges-mask = flat_map-append edges_in tellings (telling ∷ []) ∙ ap (λ es. edges_of tellings ++ es) (append-nil (edges_in telling)) ∙ tell-mask

@@ -10,7 +10,7 @@ use Rattle.std.specs.List.{list_any}
 use Rattle.ld_rules.proofs.SameLemmas.{apart-fold}
 use Rattle.ld_rules.specs.Inner.Scanned.{AreSame}
 use Rattle.ld_tables.specs.declared.edges.EdgeFact.{EdgeFact}
-use Rattle.ld_tables.specs.declared.words.Telling.{Telling}
+use Rattle.ld_tables.specs.declared.masks.NewEdges.{NewEdges}
 use Rattle.ld_tables.specs.Inner.Edges.{AreToldTo, edge_to, edges_in, edges_of, same_pair, with_edge_fact}
 use Rattle.ld_tables.specs.Inner.Locks.{HeldByTasks, Tells}
 use Rattle.ld_tables.proofs.FirstLemmas.{with_each-first}
@@ -100,7 +100,7 @@ tells-exact froms class line old new is =
     })
 
 -- what was told stays
-pub keeps-first : (old new : List Telling) → take (length old) new ≡ old → (test : EdgeFact → Bool) → list_any test (edges_of old) ≡ true → list_any test (edges_of new) ≡ true
+pub keeps-first : (old new : List NewEdges) → take (length old) new ≡ old → (test : EdgeFact → Bool) → list_any test (edges_of old) ≡ true → list_any test (edges_of new) ≡ true
 keeps-first old new first test there =
     ap (λ ts. list_any test (edges_of ts)) (sym (take-append-drop (length old) new))
     ∙ ap (list_any test) (flat_map-append edges_in (take (length old) new) (drop (length old) new))

@@ -10,8 +10,8 @@ use Rattle.std.proofs.lemmas.Nat.Bits.{bit_at-zero}
 use Rattle.std.specs.Int.{bit_at}
 use Rattle.std.specs.List.{AllPairs, list_any}
 use Rattle.ld_class.specs.Blocks.{IsBlock, is_on}
-use Rattle.ld_tables.specs.declared.words.Telling.{Telling}
-use Rattle.ld_tables.specs.declared.words.Word.{Word}
+use Rattle.ld_tables.specs.declared.masks.NewEdges.{NewEdges}
+use Rattle.ld_tables.specs.declared.masks.Word.{Word}
 use Rattle.ld_tables.specs.Inner.Edges.{AreMore, AreTold, has_told, no_word, word_at}
 
 -- what `==` computes
@@ -47,9 +47,9 @@ AreMore-further a b c first then_ = record {
 }
 
 -- nothing was told of a word that is new
-pub none_told : (tellings : List Telling) (n place : ℕ) → All (λ (t : Telling). t.number < n) tellings → has_told tellings n place ≡ false
+pub none_told : (tellings : List NewEdges) (n place : ℕ) → All (λ (t : NewEdges). t.number < n) tellings → has_told tellings n place ≡ false
 none_told tellings n place within =
-    list_any_none (λ (t : Telling). nat_eq n t.number && is_on t.bits place) tellings
+    list_any_none (λ (t : NewEdges). nat_eq n t.number && is_on t.bits place) tellings
     (λ k d low. ap (λ b. b && is_on (get_or tellings k d).bits place) (ne_eqb n (get_or tellings k d).number (λ same. let below = within k d low in omega (arith, same, below))))
 
 -- a word that is put among them
@@ -68,14 +68,14 @@ module _ (words : List Word) (word : Word) where
       by true = AreMore-same words
       by false = record { more = omega (arith, length_push words word); kept = λ n within. get_or_append_left words (word ∷ []) no_word n within }
 
-  pub told-with_word : IsBlock word.block → (told : List ℕ) (tellings : List Telling) → AreTold words told tellings → AreTold with_word (with_none told) tellings
+  pub told-with_word : IsBlock word.block → (told : List ℕ) (tellings : List NewEdges) → AreTold words told tellings → AreTold with_word (with_none told) tellings
   told-with_word low told tellings are = by (list_any (same_words word) words) refl
     where
       on-none : (n place : ℕ) → n ≡ length words → is_on (get_or (told ++ 0 ∷ []) n 0) place ≡ has_told tellings n place
       on-none n place last =
           ap (λ bits. is_on bits place) (get_or_push told 0 0 n (are.many ∙ sym last))
           ∙ ne_eqb (bit_at 0 place) 1 (λ is. omega (arith, is, bit_at-zero place))
-          ∙ sym (none_told tellings n place (subst (λ m. All (λ (t : Telling). t.number < m) tellings) (sym last) are.within))
+          ∙ sym (none_told tellings n place (subst (λ m. All (λ (t : NewEdges). t.number < m) tellings) (sym last) are.within))
 
       by : (b : Bool) → list_any (same_words word) words ≡ b → AreTold (if b then words else words ++ word ∷ []) (if b then told else told ++ 0 ∷ []) tellings
       by true _ = are
@@ -84,7 +84,7 @@ module _ (words : List Word) (word : Word) where
             (λ k d within same. true≢false (sym (list_any_at (same_words word) words k d within (same_words-refl word (get_or words k d) (sym same))) ∙ none));
         low = All-push (λ (w : Word). IsBlock w.block) words word are.low low;
         many = omega (arith, are.many, length_push told 0, length_push words word);
-        within = All-weaker (λ (t : Telling). t.number < length words) (λ (t : Telling). t.number < length (words ++ word ∷ [])) (λ t below. omega (arith, below, length_push words word)) tellings are.within;
+        within = All-weaker (λ (t : NewEdges). t.number < length words) (λ (t : NewEdges). t.number < length (words ++ word ∷ [])) (λ t below. omega (arith, below, length_push words word)) tellings are.within;
         each = λ k d within. get_or_append_left words (word ∷ []) no_word (get_or tellings k d).number (are.within k d within) ∙ are.each k d within;
         some = are.some;
         noted = λ n place within inside. noted n place within inside (cases_lt n (length words));
@@ -96,7 +96,7 @@ module _ (words : List Word) (word : Word) where
           noted n place within inside (inr past) = on-none n place (omega (arith, past, within, length_push words word))
 
   -- where the words are one more
-  pub told-new : IsBlock word.block → (told : List ℕ) (tellings : List Telling) → AreTold words told tellings → (keys : List Word) (now : List ℕ) → keys ≡ with_word
+  pub told-new : IsBlock word.block → (told : List ℕ) (tellings : List NewEdges) → AreTold words told tellings → (keys : List Word) (now : List ℕ) → keys ≡ with_word
       → length keys ≡ length words + 1 → now ≡ told ++ 0 ∷ [] → AreTold keys now tellings
   told-new low told tellings are keys now is many pushed = by (list_any (same_words word) words) refl
     where

@@ -8,8 +8,8 @@ ghost use Rattle.ld_tables.specs.Inner.Chains.{same_link};
 ghost use Rattle.ld_tables.specs.declared.chains.TheConstants.{MOST_CHAINS, MOST_KEPT};
 ghost use Rattle.ld_rules.specs.declared.outcome.TheConstants.{MOST_HELD};
 
-use crate::guesses::ChainGuesses;
-use crate::words::Mask;
+use crate::hints::ChainHints;
+use crate::masks::Mask;
 use indexmap::IndexSet;
 use std::alloc::{AllocError, Global};
 use std::marker::Model;
@@ -51,7 +51,7 @@ pub struct Chains {
     /// The chain that was answered last. It may be past the end, and says nothing then.
     last: u32,
     /// Where others were found last.
-    guesses: ChainGuesses,
+    hints: ChainHints,
 }
 
 impl Model for Chains {
@@ -78,7 +78,7 @@ impl Chains {
             masks: Vec::new(alloc),
             runs: Vec::new(alloc),
             last: 0,
-            guesses: ChainGuesses::new(),
+            hints: ChainHints::new(),
         }
     }
 
@@ -130,13 +130,13 @@ impl Chains {
         if is_at(&self.links, self.last, link) {
             return Some(self.last);
         }
-        self.guess(link)
+        self.hint(link)
     }
 
     /// The same, of a chain that isn't that of the call before: where it was found last is asked first.
-    // Most chains are guessed.
+    // Most chains are those that the hint names.
     #[inline(always)]
-    fn guess(&mut self, link: Link) -> Option<u32>
+    fn hint(&mut self, link: Link) -> Option<u32>
         requires { IfSome link.before (λ n. n < length (chains_of self.old.links)) }
         ensures same { self.new ≡ self.old }
         ensures many { length self.old.masks ≡ length self.old.links }
@@ -145,15 +145,15 @@ impl Chains {
         ensures chain { IfSome result (λ n. slice_index_or (chains_of self.old.links) n []
             ≡ chain_before (chains_of self.old.links) link.before ++ link.class ∷ []) }
     {
-        let guess = self.guesses.of(link);
-        if is_at(&self.links, guess, link) {
-            self.last = guess;
-            return Some(guess);
+        let hint = self.hints.of(link);
+        if is_at(&self.links, hint, link) {
+            self.last = hint;
+            return Some(hint);
         }
         self.look_up(link)
     }
 
-    /// The same, of a chain that isn't guessed.
+    /// The same, of a chain that the hint doesn't name.
     #[inline(never)]
     fn look_up(&mut self, link: Link) -> Option<u32>
         requires { IfSome link.before (λ n. n < length (chains_of self.old.links)) }
@@ -166,7 +166,7 @@ impl Chains {
     {
         let place = self.links.get_index_of(&link)?;
         self.last = place as u32;
-        self.guesses.note(link, place as u32);
+        self.hints.note(link, place as u32);
         Some(place as u32)
     }
 

@@ -1,19 +1,15 @@
 //! The dependencies between numbered classes.
-ghost use Rattle.std.specs.Prelude.{◌≡◌, ◌<◌, ◌≤◌, ◌∷◌, true, [], All, fold, length, map, take, IfOk};
-ghost use Rattle.std.specs.Prelude.{IfSome, OnOk, slice_index_or};
-ghost use Rattle.ld_tables.specs.declared.words.Mask.{Mask};
+ghost use Rattle.std.specs.Prelude.{◌≡◌, ◌<◌, ◌≤◌, ◌∷◌, true, [], All, fold, length, map, take, IfOk, IfSome, OnOk, slice_index_or, ◌&&◌, ℕ, not};
+ghost use Rattle.ld_tables.specs.declared.masks.Mask.{Mask};
 ghost use Rattle.std.specs.Bool.{OnTrue};
-ghost use Rattle.ld_class.specs.Blocks.{IsBlock};
+ghost use Rattle.ld_class.specs.Blocks.{IsBlock, is_on};
 ghost use Rattle.ld_tables.specs.declared.edges.TheConstants.{MOST_WORDS};
-ghost use Rattle.ld_tables.specs.Inner.Edges.{AreMasks, AreMore, AreToldTo, classes_of, edge_to, edges_of};
-ghost use Rattle.ld_tables.specs.Inner.Edges.{with_edge_fact, word_at};
+ghost use Rattle.ld_tables.specs.Inner.Edges.{AreMasks, AreMore, AreToldTo, classes_of, edge_to, edges_of, with_edge_fact, word_at, has_told};
 
-use crate::guesses::WordGuesses;
 use crate::held::Held;
-use crate::masks::{Seats, add_bit};
-use crate::numbers::as_number;
-use crate::untold::untell;
-use crate::words::{Mask, Telling, Word};
+use crate::hints::WordHints;
+use crate::masks::{Mask, NewEdges, Seats, Word, add_bit};
+use crate::sparse_set::as_number;
 use indexmap::IndexSet;
 use std::alloc::{AllocError, Global};
 use std::marker::Model;
@@ -46,10 +42,10 @@ const _: () = prove!(MOST_WORDS == 524_288);
 pub struct Edges {
     words: IndexSet<Word>,
     /// Where words were found last.
-    guesses: WordGuesses,
+    hints: WordHints,
     /// By the number of a word the bits of it that were told.
     told: Vec<u64>,
-    tellings: Vec<Telling>,
+    tellings: Vec<NewEdges>,
 }
 
 impl Model for Edges {
@@ -69,14 +65,14 @@ impl Edges {
     {
         Edges {
             words: IndexSet::new(alloc),
-            guesses: WordGuesses::new(alloc),
+            hints: WordHints::new(alloc),
             told: Vec::new(alloc),
             tellings: Vec::new(alloc),
         }
     }
 
     /// What was told, in the order in which it came.
-    pub fn tellings(&self) -> &[Telling]
+    pub fn tellings(&self) -> &[NewEdges]
         ensures same { result.now ≡ self.now.tellings }
         ensures low { All (λ t. IsBlock t.word.block) result.now }
     {
@@ -100,7 +96,7 @@ impl Edges {
 
     /// The number of a word. `AllocError` too if its place is no number of 32 bits. The number that it had last is tried
     /// first.
-    // Most words are guessed, and are compared where this is called.
+    // Most words are where the hint says, and are compared where this is called.
     #[inline(always)]
     fn number(&mut self, word: Word) -> Result<u32, AllocError>
         requires { IsBlock word.block }
@@ -109,16 +105,16 @@ impl Edges {
         ensures within { IfOk result (λ number. number < length self.new.words) }
         ensures number { IfOk result (λ number. word_at self.new.words number ≡ word) }
     {
-        let guess = self.guesses.of(word);
-        if is_at(&self.words, guess, word) {
-            return Ok(guess);
+        let hint = self.hints.of(word);
+        if is_at(&self.words, hint, word) {
+            return Ok(hint);
         }
         let number = self.look_up(word)?;
-        self.guesses.note(word, number);
+        self.hints.note(word, number);
         Ok(number)
     }
 
-    /// The same, of a word that isn't guessed.
+    /// The same, of a word that isn't where the hint says.
     #[inline(never)]
     fn look_up(&mut self, word: Word) -> Result<u32, AllocError>
         requires { IsBlock word.block }
@@ -242,7 +238,7 @@ impl Edges {
         let word = self.word(mask.word);
         self.tellings.reserve(1)?;
         self.told[mask.word as usize] = told | bits;
-        self.tellings.push_reserved(Telling {
+        self.tellings.push_reserved(NewEdges {
             number: mask.word,
             word,
             bits,
@@ -304,4 +300,16 @@ fn is_at(words: &IndexSet<Word>, number: u32, word: Word) -> bool
 {
     let place = number as usize;
     place < words.len() && words.as_slice()[place] == word
+}
+
+/// Puts the bits of these off.
+pub(crate) fn untell(told: &mut Vec<u64>, tellings: &[NewEdges])
+    requires { All (λ t. t.number < length told.old.items) tellings.now }
+    ensures many { length told.new.items ≡ length told.old.items }
+    ensures off { (n k : ℕ) → n < length told.old.items → k < 64 → is_on (slice_index_or told.new.items n 0) k
+        ≡ (is_on (slice_index_or told.old.items n 0) k && not (has_told tellings.now n k)) }
+{
+    for telling in tellings {
+        told[telling.number as usize] &= !telling.bits;
+    }
 }

@@ -4,11 +4,11 @@ ghost use Rattle.ld_class.specs.Blocks.{IsBlock};
 ghost use Rattle.ld_tables.specs.Inner.Edges.{edges_in, edges_of};
 
 use crate::edges::EdgeFact;
-use crate::words::Telling;
+use crate::masks::NewEdges;
 use std::alloc::{AllocError, Global};
 
 /// The dependencies that were told, one by one.
-pub(crate) fn all_facts(alloc: Global, tellings: &[Telling]) -> Result<Vec<EdgeFact>, AllocError>
+pub(crate) fn all_facts(alloc: Global, tellings: &[NewEdges]) -> Result<Vec<EdgeFact>, AllocError>
     requires { All (λ t. IsBlock t.word.block) tellings.now }
     ensures { IfOk result (λ facts. facts.items ≡ edges_of tellings.now) }
 {
@@ -20,7 +20,7 @@ pub(crate) fn all_facts(alloc: Global, tellings: &[Telling]) -> Result<Vec<EdgeF
 }
 
 /// Adds the dependencies that were told at one line.
-fn add_facts(facts: &mut Vec<EdgeFact>, telling: &Telling) -> Result<(), AllocError>
+fn add_facts(facts: &mut Vec<EdgeFact>, telling: &NewEdges) -> Result<(), AllocError>
     requires { IsBlock telling.now.word.block }
     ensures { OnOk result (facts.new.items ≡ facts.old.items ++ edges_in telling.now) }
 {

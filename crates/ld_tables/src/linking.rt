@@ -2,7 +2,7 @@
 ghost use Rattle.std.specs.Prelude.{◌≡◌, ◌<◌, ◌≤◌, [], ◌∷◌, ◌++◌, length, List, map, option_map};
 ghost use Rattle.std.specs.Prelude.{slice_index_or, IfOk};
 ghost use Rattle.std.specs.Bool.{OnTrue};
-ghost use Rattle.ld_tables.specs.declared.words.Word.{Word};
+ghost use Rattle.ld_tables.specs.declared.masks.Word.{Word};
 ghost use Rattle.ld_tables.specs.declared.edges.TheConstants.{MOST_WORDS};
 ghost use Rattle.ld_tables.specs.Inner.Chains.{HasRoom, chains_of, link_with};
 ghost use Rattle.ld_tables.specs.Inner.Locks.{HasItsMasks, IsChainIfAny, IsExtended, IsNumbered, IsRoomy, chain_of};
@@ -12,7 +12,7 @@ ghost use Rattle.ld_rules.specs.declared.outcome.TheConstants.{MOST_HELD};
 use crate::chains::{Chains, Link};
 use crate::edges::Edges;
 use crate::held::Held;
-use crate::marked::Marked;
+use crate::marked_set::MarkedSet;
 use std::alloc::{AllocError, Global};
 
 /// What stays of the cache where all else is taken away. Only the functions of this file make one, by counting.
@@ -70,7 +70,7 @@ pub fn make_room(chains: &mut Chains, edges: &mut Edges) -> Kept
 }
 
 /// The same at the start of a trace, where nothing was told.
-pub fn make_room_if_untold(chains: &mut Chains, told: &Marked, edges: &mut Edges)
+pub fn make_room_if_untold(chains: &mut Chains, told: &MarkedSet, edges: &mut Edges)
     ensures room { told.now ≡ [] → edges.old.tellings ≡ [] → IsRoomy chains.new edges.new }
     ensures same { 0 < length told.now → chains.new ≡ chains.old }
     ensures edges { edges.new.tellings ≡ edges.old.tellings }

@@ -21,12 +21,12 @@ use crate::chains::Chains;
 use crate::context::Context;
 use crate::edges::{EdgeFact, Edges};
 use crate::facts::all_facts;
-use crate::guesses::Guesses;
 use crate::held::{Held, Stacks};
+use crate::hints::Hints;
 use crate::interrupts::{Flag, Interrupts};
 use crate::linking::{Kept, is_unlinked, learn, linked, make_room, make_room_if_untold};
-use crate::marked::Marked;
-use crate::words::Telling;
+use crate::marked_set::MarkedSet;
+use crate::masks::NewEdges;
 use ld_class::ClassName;
 use ld_rules::MOST_HELD;
 use ld_trace::{Lock, State};
@@ -35,7 +35,7 @@ use std::marker::Model;
 
 /// How much there was when the trace began.
 #[derive(Clone, Copy)]
-struct Before {
+struct LocksStart {
     /// How many tellings of dependencies.
     edges: usize,
     /// How many chains had the dependencies of their last class told.
@@ -56,10 +56,10 @@ pub struct Locks<'a> {
     stacks: Stacks<'a>,
     chains: Chains,
     /// The numbers of the chains that had the dependencies of their last class told.
-    told: Marked,
+    told: MarkedSet,
     edges: Edges,
-    before: Before,
-    guesses: Guesses,
+    before: LocksStart,
+    hints: Hints,
     alloc: Global,
 }
 
@@ -86,26 +86,26 @@ impl<'a> Locks<'a> {
         Locks {
             stacks: Stacks::new(alloc),
             chains: Chains::new(alloc),
-            told: Marked::new(alloc),
+            told: MarkedSet::new(alloc),
             edges: Edges::new(alloc),
-            before: Before { edges: 0, told: 0 },
-            guesses: Guesses::new(),
+            before: LocksStart { edges: 0, told: 0 },
+            hints: Hints::new(),
             alloc,
         }
     }
 
-    /// A guess where the class of a lock stands among those that are known. No clause says anything of it: whoever
+    /// A hint where the class of a lock stands among those that are known. No clause says anything of it: whoever
     /// reads one compares the name that stands there.
     #[inline(always)]
-    pub fn guess(&self, name: ClassName<'_>) -> u32 {
-        self.guesses.of(name)
+    pub fn hint(&self, name: ClassName<'_>) -> u32 {
+        self.hints.of(name)
     }
 
-    /// The class was found at this place, by which it is guessed from now on.
+    /// The class was found at this place, which is its hint from now on.
     pub fn note(&mut self, name: ClassName<'_>, place: u32)
         ensures { self.new ≡ self.old }
     {
-        self.guesses.note(name, place);
+        self.hints.note(name, place);
     }
 
     /// A trace begins, with no task, on top of the dependencies that are there.
@@ -119,7 +119,7 @@ impl<'a> Locks<'a> {
     {
         self.stacks.begin();
         make_room_if_untold(&mut self.chains, &self.told, &mut self.edges);
-        self.before = Before {
+        self.before = LocksStart {
             edges: self.edges.tellings().len(),
             told: self.told.as_slice().len(),
         };
@@ -156,7 +156,7 @@ impl<'a> Locks<'a> {
         self.stacks.begin();
         self.told.cut(0);
         self.edges.cut(0);
-        self.before = Before { edges: 0, told: 0 };
+        self.before = LocksStart { edges: 0, told: 0 };
         make_room(&mut self.chains, &mut self.edges)
     }
 
@@ -326,7 +326,7 @@ impl<'a> Locks<'a> {
     }
 
     /// What the trace told: the dependencies that weren't there when it began.
-    pub fn told_here(&self) -> &[Telling]
+    pub fn told_here(&self) -> &[NewEdges]
         ensures told { self.now.before ++ edges_of result.now ≡ self.now.edges }
         ensures low { All (λ t. IsBlock t.word.block) result.now }
     {

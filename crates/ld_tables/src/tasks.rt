@@ -6,8 +6,8 @@ ghost use Rattle.ld_class.specs.Names.{place_of_task, with_name, with_task};
 ghost use Rattle.ld_class.specs.declared.names.TheConstants.{MOST_NAMES};
 ghost use Rattle.ld_tables.specs.declared.tasks.TheConstants.{MOST_KNOWN_TASKS};
 
-use crate::guesses::Guesses;
-use crate::numbers::Numbers;
+use crate::hints::Hints;
+use crate::sparse_set::SparseSet;
 use ld_class::{ClassName, Classes};
 use std::alloc::{AllocError, Global};
 use std::marker::Model;
@@ -27,11 +27,11 @@ pub struct TaskNames<'a> {
     /// All names that were met, each as that of a class, without a subclass.
     known: Classes<'a>,
     /// The trace's own, by their places among those.
-    here: Numbers,
+    here: SparseSet,
     /// The place among those known that was answered last. It may be past the end, and says nothing then.
     last: u32,
     /// Where others were found last.
-    guesses: Guesses,
+    hints: Hints,
 }
 
 impl<'a> Model for TaskNames<'a> {
@@ -54,9 +54,9 @@ impl<'a> TaskNames<'a> {
     {
         TaskNames {
             known: Classes::new(alloc),
-            here: Numbers::new(alloc),
+            here: SparseSet::new(alloc),
             last: 0,
-            guesses: Guesses::new(),
+            hints: Hints::new(),
         }
     }
 
@@ -79,25 +79,25 @@ impl<'a> TaskNames<'a> {
         if self.known.is_at(self.last, ClassName { name, sub: 0 }) {
             return place_of_number(&self.here, self.last);
         }
-        self.guess(name)
+        self.hint(name)
     }
 
     /// The same, of a name that isn't that of the call before: where it was found last is asked first.
     #[inline(never)]
-    fn guess(&mut self, name: &[u8]) -> Option<u32>
+    fn hint(&mut self, name: &[u8]) -> Option<u32>
         ensures same { self.new ≡ self.old }
         ensures place { result ≡ place_of_task self.old name.now }
         ensures here { IfSome result (λ id. IsTaskAt self.old id name.now) }
     {
-        let guess = self.guesses.of(ClassName { name, sub: 0 });
-        if self.known.is_at(guess, ClassName { name, sub: 0 }) {
-            self.last = guess;
-            return place_of_number(&self.here, guess);
+        let hint = self.hints.of(ClassName { name, sub: 0 });
+        if self.known.is_at(hint, ClassName { name, sub: 0 }) {
+            self.last = hint;
+            return place_of_number(&self.here, hint);
         }
         self.look_up(name)
     }
 
-    /// The same, of a name that isn't guessed.
+    /// The same, of a name that isn't where the hint says.
     #[inline(never)]
     fn look_up(&mut self, name: &[u8]) -> Option<u32>
         ensures same { self.new ≡ self.old }
@@ -106,7 +106,7 @@ impl<'a> TaskNames<'a> {
     {
         let known = self.known.find(ClassName { name, sub: 0 })?;
         self.last = known;
-        self.guesses.note(ClassName { name, sub: 0 }, known);
+        self.hints.note(ClassName { name, sub: 0 }, known);
         place_of_number(&self.here, known)
     }
 
@@ -145,7 +145,7 @@ impl<'a> TaskNames<'a> {
 }
 
 /// The place of a number among those of the trace, or `None` where it is not there.
-fn place_of_number(here: &Numbers, number: u32) -> Option<u32>
+fn place_of_number(here: &SparseSet, number: u32) -> Option<u32>
     ensures place { result ≡ position (nat_eq number) here.now }
     ensures absent { IfNone result (list_any (nat_eq number) here.now ≡ false) }
 {

@@ -199,19 +199,17 @@ fn write_violations(alloc: Global, text: &mut Vec<u8>, book: &Book<'_>) -> Resul
 fn write_found(text: &mut Vec<u8>, findings: &Findings<'_, '_>) -> Result<(), AllocError> {
     let cycles = findings.cycles.items();
     let conflicts = findings.conflicts.items();
-    let forbidden = findings.forbidden.items();
+    let hard_walks = findings.forbidden.hard.len() as u64;
+    let soft_walks = findings.forbidden.soft.len() as u64;
     let recursions = cycles.iter().filter(|row| row.from == row.to).count();
     let hard = conflicts
         .iter()
         .filter(|row| row.state == State::Hard)
         .count();
-    let hard_walks = forbidden
-        .iter()
-        .filter(|row| row.state == State::Hard)
-        .count();
     let all = (cycles.len() as u64)
         .saturating_add(conflicts.len() as u64)
-        .saturating_add(forbidden.len() as u64);
+        .saturating_add(hard_walks)
+        .saturating_add(soft_walks);
     write_figures(
         text,
         &[
@@ -223,11 +221,8 @@ fn write_found(text: &mut Vec<u8>, findings: &Findings<'_, '_>) -> Result<(), Al
                 "conflicts-soft",
                 conflicts.len().saturating_sub(hard) as u64,
             ),
-            ("forbidden-hard", hard_walks as u64),
-            (
-                "forbidden-soft",
-                forbidden.len().saturating_sub(hard_walks) as u64,
-            ),
+            ("forbidden-hard", hard_walks),
+            ("forbidden-soft", soft_walks),
         ],
     )
 }

@@ -80,27 +80,27 @@ impl Tree {
         )
     }
 
-    /// The shown walk to a class that was found, from the one at which the search began.
+    /// Makes of `walk` the shown walk to a class that was found, from the one at which the search began.
     ///
     /// # Errors
     ///
     /// `AllocError` where memory was refused.
     pub fn walk(
         &self,
-        alloc: Global,
         leading: &Leading<'_>,
         start: u32,
         end: u32,
-    ) -> Result<Vec<u32>, AllocError>
+        walk: &mut Vec<u32>,
+    ) -> Result<(), AllocError>
         requires tree { IsTreeOf leading.now start self.now }
         requires end { Contains self.now.found end }
-        ensures { IfOk result (λ walk.
-            IsShownWalk (IsNear leading.now.lists) (ComesBefore leading.now.places) start end walk.items) }
+        ensures { OnOk result
+            (IsShownWalk (IsNear leading.now.lists) (ComesBefore leading.now.places) start end walk.new.items) }
     {
         let Some(number) = self.numbers[end as usize] else {
             unreachable!()
         };
-        let mut walk = Vec::new(alloc);
+        walk.clear();
         walk.push(end)?;
         let mut place = self.from[number];
         while place > 0 {
@@ -109,7 +109,7 @@ impl Tree {
         }
         walk.push(start)?;
         walk.reverse();
-        Ok(walk)
+        Ok(())
     }
 }
 

@@ -7,7 +7,7 @@ use Rattle.std.proofs.lemmas.List.Elements.{All-map}
 use Rattle.std.proofs.lemmas.List.FromFn.{get_or-range_with_len, length-range_with_len, map-range_with_len_more}
 use Rattle.std.proofs.lemmas.List.Sorted.{All-permutation, Contains-permutation, IsPermutation-map, length_permutation}
 use Rattle.std.specs.List.{range_with_len}
-use Rattle.ld_class.specs.declared.class_name.ClassName.{ClassName}
+use Rattle.ld_class.specs.declared.names.ClassName.{ClassName}
 use Rattle.ld_class.specs.Names.{AreDistinct, IsNameAt, PlainClass, plain_class}
 use Rattle.ld_graph.specs.Edges.{ComesBefore}
 use Rattle.ld_union.specs.Findings.{IsBefore}

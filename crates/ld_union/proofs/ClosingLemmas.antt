@@ -2,8 +2,8 @@
 use Rattle.std.proofs.Common.{◌≡◌, ◌⊎◌, inl, inr, ◌++◌, ◌∷◌, [], List, ℕ, zero, suc, Option, None, Some, refl, sym, ap, subst}
 use Rattle.std.proofs.lemmas.List.Elements.{Contains-append_left, Contains-push, Contains-push_cases}
 use Rattle.ld_graph.specs.declared.Edge.{Edge}
-use Rattle.ld_graph.specs.declared.placed.Insert.{Insert}
-use Rattle.ld_graph.specs.declared.placed.Insert.TheVariants.{AfterCycle, Closed, Kept, Known, Moved}
+use Rattle.ld_graph.specs.declared.ranks.Insert.{Insert}
+use Rattle.ld_graph.specs.declared.ranks.Insert.TheVariants.{AfterCycle, Closed, Kept, Known, Moved}
 use Rattle.ld_graph.specs.Edges.{IsEdge, PlainGraph, edge, with_edge}
 use Rattle.ld_graph.specs.Order.{HasCycle, IsInserted}
 use Rattle.ld_graph.specs.Walks.{HasWalk}

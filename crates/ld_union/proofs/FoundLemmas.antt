@@ -20,13 +20,13 @@ use Rattle.ld_union.specs.Inner.Numbers.{AreFound, BitsGrow, EdgesGrow, IsConfli
 use Rattle.ld_union.specs.Inner.Rows.{IsOfEach}
 use Rattle.ld_union.specs.Violations.{IsConflict, IsCycle, IsForbidden}
 use Rattle.ld_trace.specs.Sources.{PlainSource}
-use Rattle.ld_union.specs.declared.news.NewBit.{NewBit}
+use Rattle.ld_union.specs.declared.delta.NewBit.{NewBit}
 use Rattle.ld_union.specs.Inner.Bits.{HasBitAt, new_bit}
-use Rattle.ld_union.specs.Inner.News.{PlainNews, Tells, TellsBits}
+use Rattle.ld_union.specs.Inner.Delta.{PlainDelta, Tells, TellsBits}
 use Rattle.ld_union.specs.Inner.Reached.{IsSourceAt}
 use Rattle.ld_union.specs.Inner.States.{of_state}
 use Rattle.ld_union.specs.Usage.{bits_of}
-use Rattle.ld_union.proofs.NewsLemmas.{row_within}
+use Rattle.ld_union.proofs.DeltaLemmas.{row_within}
 use Rattle.ld_union.proofs.ReachedLemmas.{bit_cases}
 
 module _ {A : Type 0} (P Q : A → Type 0) (kept : (x : A) → P x → Q x) (found : Option A) (exact : IsExact P found) where
@@ -71,7 +71,7 @@ module _ (usage more : List Usage) (told : List NewBit) (tells : TellsBits usage
       by c conflict (inr new) held = at_new c (In state) conflict conflict.0 new
 
 -- a forbidden walk that was looked for at the classes that were reached since, and at the bits that came
-module _ (old new : PlainUnion) (news : PlainNews) (tells : Tells old new news) (state : State)
+module _ (old new : PlainUnion) (delta : PlainDelta) (tells : Tells old new delta) (state : State)
     (each : (class : ℕ) → Contains (of_state new.reached state) class ↔ ((from : ℕ) × IsSourceAt (edges_of new.dependencies) (bits_of new.usage) state class from)) where
   abbrev WasOne : Forbidden → Type 0
   WasOne w = IsForbiddenAt (edges_of old.dependencies) (bits_of old.usage) state w.from w.to
@@ -82,12 +82,12 @@ module _ (old new : PlainUnion) (news : PlainNews) (tells : Tells old new news) 
   abbrev NoneTo : ℕ → Type 0
   NoneTo class = (from : ℕ) → ¬ IsForbiddenAt (edges_of new.dependencies) (bits_of new.usage) state from class
 
-  no_walk : (¬ ((w : Forbidden) × WasOne w)) → All NoneTo (drop (of_state news.first_reached state) (of_state new.reached state))
-      → All (λ (t : NewBit). t.bit ≡ usage_of (On state) → NoneTo t.class) news.bits → (walk : Forbidden) → ¬ IsOne walk
+  no_walk : (¬ ((w : Forbidden) × WasOne w)) → All NoneTo (drop (of_state delta.first_reached state) (of_state new.reached state))
+      → All (λ (t : NewBit). t.bit ≡ usage_of (On state) → NoneTo t.class) delta.bits → (walk : Forbidden) → ¬ IsOne walk
   no_walk none reached held walk is = by (bit_cases (bits_of old.usage) walk.to (On state))
     where
       count : ℕ
-      count = of_state news.first_reached state
+      count = of_state delta.first_reached state
 
       now : List ℕ
       now = of_state new.reached state
@@ -105,12 +105,12 @@ module _ (old new : PlainUnion) (news : PlainNews) (tells : Tells old new news) 
       by (inl held_before) =
           before held_before (Contains-append_cases (take count now) (drop count now) walk.to (subst (λ all. Contains all walk.to) (sym (take-append-drop count now)) there))
       by (inr unheld) =
-          All-contains (λ (t : NewBit). t.bit ≡ usage_of (On state) → NoneTo t.class) news.bits (new_bit walk.to (On state)) held
+          All-contains (λ (t : NewBit). t.bit ≡ usage_of (On state) → NoneTo t.class) delta.bits (new_bit walk.to (On state)) held
           (tells.bits.all walk.to (On state) is.1.0 unheld) refl walk.from is
 
   pub forbidden_looked : (before found : Option Forbidden) → is_some before ≡ false → IsExact WasOne before
-      → All NoneTo (drop (of_state news.first_reached state) (of_state new.reached state))
-      → MatchOption found (All (λ (t : NewBit). t.bit ≡ usage_of (On state) → NoneTo t.class) news.bits) IsOne → IsExact IsOne found
+      → All NoneTo (drop (of_state delta.first_reached state) (of_state new.reached state))
+      → MatchOption found (All (λ (t : NewBit). t.bit ≡ usage_of (On state) → NoneTo t.class) delta.bits) IsOne → IsExact IsOne found
   forbidden_looked (Some w) found absent was reached held = absurd (true≢false absent)
   forbidden_looked None (Some w) absent was reached held = held
   forbidden_looked None None absent was reached held = λ any. no_walk was reached held any.0 any.1

@@ -1,6 +1,7 @@
 pub mod ClosingLemmas
+pub mod EarlierLemmas
 pub mod EachOnceLemmas
-pub mod NewsLemmas
+pub mod DeltaLemmas
 pub mod NotedLemmas
 pub mod AcquiredLemmas
 pub mod ReachedLemmas
@@ -22,4 +23,6 @@ pub mod SortedLemmas
 pub mod StayingLemmas
 pub mod UniqueLemmas
 pub mod WitnessLemmas
+pub mod WalkRowLemmas
+pub mod PartLemmas
 pub mod LeadingLemmas

@@ -7,7 +7,7 @@ use Rattle.std.proofs.lemmas.List.Elements.{All-drop}
 use Rattle.std.proofs.lemmas.List.Sums.{fold-append}
 use Rattle.std.proofs.Math.ListN.{length-append}
 use Rattle.std.proofs.Math.Seq.{drop-append_seam, take-length}
-use Rattle.std.specs.List.{find}
+use Rattle.std.specs.List.{find, list_any}
 use Rattle.ld_class.specs.Names.{PlainClass}
 use Rattle.ld_rules.specs.declared.outcome.Witness.{Witness}
 use Rattle.ld_rules.specs.Dependency.{Dependency, same_dependency}
@@ -16,8 +16,11 @@ use Rattle.ld_batch.specs.Batch.{Met, named_dependency, witness_of}
 use Rattle.ld_batch.proofs.SourceLemmas.{earlier_of-none}
 use Rattle.ld_union.specs.declared.dependencies.Dependencies.{Dependencies}
 use Rattle.ld_union.specs.declared.dependencies.Witnessed.{Witnessed}
+use Rattle.ld_graph.specs.declared.Edge.{Edge}
+use Rattle.ld_union.specs.Inner.Earlier.{is_earlier}
 use Rattle.ld_union.specs.Inner.Noted.{AreNoted, IsNoting, with_all}
-use Rattle.ld_union.specs.Inner.Union.{AreWitnessed, earlier_of, edges_of, with_seen}
+use Rattle.ld_union.specs.Inner.Union.{AreWitnessed, earlier_of, edges_of, named_edge, with_seen}
+use Rattle.ld_union.proofs.EarlierLemmas.{witnessed-again}
 use Rattle.ld_union.proofs.ReachedLemmas.{front-then, further-same, further-then}
 use Rattle.ld_union.proofs.SeenLemmas.{none_found}
 use Rattle.ld_union.proofs.UnionLemmas.{length_rows, same_dependency-true}
@@ -46,6 +49,23 @@ module _ (names batch : List PlainClass) where
     closing = λ was. was;
     numbered = λ between. between;
     witnesses = λ between first witnessed. witnessed;
+  }
+
+  -- one was noted that was seen in an earlier trace
+  pub noted_again : (now : Dependencies) (met : WitnessedEdge) (e : Edge) → named_edge names e ≡ (named_dependency batch met).what
+      → list_any (is_earlier e met.witness.number) now.rows.items ≡ true → AreNoted names batch (met ∷ []) now now
+  noted_again now met e same found = record {
+    classes = refl;
+    spare_edges = omega arith;
+    spare_rows = λ n room. omega (arith, room);
+    front = all_edges now.rows.items;
+    further = further-same now.reach;
+    exact = λ state seeds is. is;
+    closing = λ was. was;
+    numbered = λ between. between;
+    witnesses = λ between first witnessed.
+        subst (λ what. AreWitnessed names now.rows.items (with_seen first what met.witness)) same
+        (witnessed-again names now.rows.items between e met.witness found first witnessed);
   }
 
   -- some were noted, and then others

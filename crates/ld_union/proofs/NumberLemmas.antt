@@ -23,7 +23,7 @@ use Rattle.ld_union.specs.Inner.Numbers.{AreBitsOf, AreFound, AreWithin, IsConfl
 use Rattle.ld_union.specs.Inner.Bits.{HasBitAt}
 use Rattle.ld_union.specs.Inner.States.{of_state}
 use Rattle.ld_union.specs.Inner.Union.{AreBetween, AreWitnessed, edges_of, named_edge}
-use Rattle.ld_union.proofs.NewsLemmas.{bit_within}
+use Rattle.ld_union.proofs.DeltaLemmas.{bit_within}
 use Rattle.ld_union.specs.Violations.{Depends, HasBit, IsConflict, IsCycle, IsForbidden, Leads}
 use Rattle.ld_union.proofs.UnionLemmas.{at_row, ends_of_edge, length_rows}
 

@@ -15,12 +15,12 @@ use Rattle.ld_trace.specs.declared.event.State.{State}
 use Rattle.ld_trace.specs.declared.event.State.TheVariants.{Hard, Soft}
 use Rattle.ld_rules.specs.Usage.{Bit, bit_of, usage_of}
 use Rattle.ld_rules.specs.Usage.Bit.{In}
-use Rattle.ld_union.specs.declared.news.NewBit.{NewBit}
+use Rattle.ld_union.specs.declared.delta.NewBit.{NewBit}
 use Rattle.ld_union.specs.declared.dependencies.Witnessed.{Witnessed}
-use Rattle.ld_union.specs.declared.states.PerState.{PerState}
+use Rattle.ld_union.specs.declared.reaches.PerState.{PerState}
 use Rattle.ld_union.specs.declared.usage.UsageRow.{UsageRow}
 use Rattle.ld_union.specs.Inner.Bits.{HasBitAt, new_bit}
-use Rattle.ld_union.specs.Inner.News.{TellsBits}
+use Rattle.ld_union.specs.Inner.Delta.{TellsBits}
 use Rattle.ld_union.specs.Inner.Reached.{AreFurther, ExpandsOnce, HaveClasses, IsFurther, IsReachOf, IsSeeded, IsSourceAt, StayExact, expanded_by, marks_by, reached_by}
 use Rattle.ld_union.specs.Inner.States.{of_state}
 use Rattle.ld_union.specs.Inner.Union.{IsUnion, edges_of}

@@ -1,12 +1,13 @@
 -- Every violation of some traces: which rows there are, what each says, and in which order they stand.
-use Rattle.std.specs.Prelude.{◌≡◌, ◌≢◌, ◌⊎◌, ◌<◌, ℕ, List, [], All, AllPairs, Any, Some, map}
+use Rattle.std.specs.Prelude.{◌≡◌, ◌≢◌, ◌⊎◌, ◌<◌, ◌++◌, ℕ, List, [], All, AllPairs, Any, Some, map}
 use Rattle.std.specs.Cmp.Lexicographic.{slice_cmp}
 use Rattle.std.specs.Ordering.{nat_cmp}
 use Rattle.std.specs.declared.cmp.Ordering.TheVariants.{Less}
-use Rattle.ld_class.specs.declared.class_name.ClassName.{ClassName}
+use Rattle.ld_class.specs.declared.names.ClassName.{ClassName}
 use Rattle.ld_class.specs.Names.{PlainClass, plain_class}
 use Rattle.ld_class.specs.Usage.{marks_of}
 use Rattle.ld_trace.specs.declared.event.State.{State}
+use Rattle.ld_trace.specs.declared.event.State.TheVariants.{Hard, Soft}
 use Rattle.ld_trace.specs.Sources.{PlainSource}
 use Rattle.ld_graph.specs.Walks.{IsShownWalk}
 use Rattle.ld_rules.specs.declared.outcome.Witness.{Witness}
@@ -15,8 +16,10 @@ use Rattle.ld_rules.specs.Usage.Bit.{In, On}
 use Rattle.ld_union.specs.declared.findings.conflicts.ConflictRow.{ConflictRow}
 use Rattle.ld_union.specs.declared.findings.cycles.CycleRow.{CycleRow}
 use Rattle.ld_union.specs.declared.findings.Findings.{Findings}
-use Rattle.ld_union.specs.declared.findings.forbidden.ForbiddenRow.{ForbiddenRow}
+use Rattle.ld_union.specs.declared.findings.listed.ForbiddenRow.{ForbiddenRow}
+use Rattle.ld_union.specs.declared.reaches.PerState.{PerState}
 use Rattle.ld_union.specs.Alarms.{state_place}
+pub use Rattle.ld_union.specs.Forbidden.{PlainForbiddenRow}
 use Rattle.ld_union.specs.Usage.{witnessed_bits}
 use Rattle.ld_union.specs.Violations.{Depends, IsConflict, IsCycle, IsForbidden}
 
@@ -66,17 +69,6 @@ pub record PlainConflictRow : Type 0 where
   pub safe_at : Witness
   pub unsafe_at : Witness
 
--- a forbidden walk, with the usage of its ends, and where their bits were first seen
-pub record PlainForbiddenRow : Type 0 where
-  pub state : State
-  pub from : PlainClass
-  pub from_marks : List ℕ
-  pub safe_at : Witness
-  pub to : PlainClass
-  pub to_marks : List ℕ
-  pub unsafe_at : Witness
-  pub via : List PlainClass
-
 -- the rows of the three kinds
 pub record PlainFindings : Type 0 where
   pub cycles : List PlainCycleRow
@@ -119,13 +111,22 @@ plain_forbidden_row row = record {
   via = row.via;
 }
 
--- the rows of the three kinds
+-- the rows of the three kinds; hard forbidden walks come first
 abbrev pub plain_findings : Findings → PlainFindings
 plain_findings findings = record {
   cycles = map plain_cycle_row findings.cycles;
   conflicts = map plain_conflict_row findings.conflicts;
-  forbidden = map plain_forbidden_row findings.forbidden;
+  forbidden = findings.forbidden.hard ++ findings.forbidden.soft;
 }
+
+-- these forbidden walks are all of one state
+abbrev pub AreOfState : State → List PlainForbiddenRow → Type 0
+AreOfState state rows = All (λ row. row.state ≡ state) rows
+
+-- the forbidden walks of each state are of that state
+pub record AreByState (rows : PerState (List PlainForbiddenRow)) : Type 0 where
+  pub hard : AreOfState Hard rows.hard
+  pub soft : AreOfState Soft rows.soft
 
 -- what a row says of a dependency on a cycle; one of a class on itself shows no walk
 pub record IsCycleRow (sources : List PlainSource) (row : PlainCycleRow) : Type 0 where

@@ -4,8 +4,12 @@ pub mod States
 pub mod Bits
 pub mod Reached
 pub mod Union
-pub mod News
+pub mod Delta
 pub mod Noted
+pub mod Earlier
 pub mod ByName
 pub mod Numbers
 pub mod Rows
+pub mod Walks
+pub mod Parts
+pub mod Seen

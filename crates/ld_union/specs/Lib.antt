@@ -3,3 +3,4 @@ pub mod Usage
 pub mod Violations
 pub mod Alarms
 pub mod Findings
+pub mod Forbidden

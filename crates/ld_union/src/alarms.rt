@@ -8,12 +8,12 @@ ghost use Rattle.ld_rules.specs.Usage.Bit.{In, On};
 ghost use Rattle.ld_union.specs.Alarms.{IsExact, plain_alarms};
 ghost use Rattle.ld_union.specs.Inner.Numbers.{AreFound, AreWithin, IsConflictAt, IsForbiddenAt};
 ghost use Rattle.ld_union.specs.Inner.Numbers.{IsNothing, IsTold, named_alarms, named_pair};
-ghost use Rattle.ld_union.specs.Inner.News.{Tells, TellsBits};
+ghost use Rattle.ld_union.specs.Inner.Delta.{Tells, TellsBits};
 ghost use Rattle.ld_union.specs.Inner.Union.{PlainUnion, edges_of};
 ghost use Rattle.ld_union.specs.Usage.{bits_of};
 
-use crate::news::{NewBit, News};
-use crate::states::PerState;
+use crate::delta::{Delta, NewBit};
+use crate::reaches::PerState;
 use crate::union::Union;
 use crate::usage::UsageRow;
 use bitflags::Flags;
@@ -84,25 +84,25 @@ impl Found {
             && self.forbidden.soft.is_none()
     }
 
-    /// Looks for each kind of which nothing was found yet, where what `news` tells could have made one:
+    /// Looks for each kind of which nothing was found yet, where what `delta` tells could have made one:
     /// for a conflict at the new bits, and for a forbidden walk at the classes that were reached since and
     /// at the new bits. The union knows whether there is a cycle. What was found stays: nothing that traces
     /// show is taken back. Takes no memory.
-    pub fn note(&mut self, union: &Union<'_>, news: &News)
-        requires { IsTold union.now news.now }
-        ensures { (old : PlainUnion) → Tells old union.now news.now
+    pub fn note(&mut self, union: &Union<'_>, delta: &Delta)
+        requires { IsTold union.now delta.now }
+        ensures { (old : PlainUnion) → Tells old union.now delta.now
             → AreFound (edges_of old.dependencies) (bits_of old.usage) self.old
             → AreFound (edges_of union.now.dependencies) (bits_of union.now.usage) self.new }
     {
-        let bits = news.bits();
+        let bits = delta.bits();
         self.cycle = union.closing();
         self.conflict = PerState {
             hard: conflict_then(self.conflict.hard, union.usage(), bits, State::Hard),
             soft: conflict_then(self.conflict.soft, union.usage(), bits, State::Soft),
         };
         self.forbidden = PerState {
-            hard: forbidden_then(self.forbidden.hard, union, news, State::Hard),
-            soft: forbidden_then(self.forbidden.soft, union, news, State::Soft),
+            hard: forbidden_then(self.forbidden.hard, union, delta, State::Hard),
+            soft: forbidden_then(self.forbidden.soft, union, delta, State::Soft),
         };
     }
 
@@ -149,11 +149,11 @@ fn conflict_then(
 fn forbidden_then(
     found: Option<Forbidden>,
     union: &Union<'_>,
-    news: &News,
+    delta: &Delta,
     state: State,
 ) -> Option<Forbidden>
-    requires { IsTold union.now news.now }
-    ensures { (old : PlainUnion) → Tells old union.now news.now
+    requires { IsTold union.now delta.now }
+    ensures { (old : PlainUnion) → Tells old union.now delta.now
         → IsExact (λ w. IsForbiddenAt (edges_of old.dependencies) (bits_of old.usage)
         state w.from w.to) found
         → IsExact (λ w. IsForbiddenAt (edges_of union.now.dependencies) (bits_of union.now.usage)
@@ -162,11 +162,11 @@ fn forbidden_then(
     if found.is_some() {
         return found;
     }
-    let reached = &union.reached(state)[news.first_reached(state)..];
+    let reached = &union.reached(state)[delta.first_reached(state)..];
     if let Some(walk) = walk_to_reached(union, reached, state) {
         return Some(walk);
     }
-    walk_to_held(union, news.bits(), state)
+    walk_to_held(union, delta.bits(), state)
 }
 
 /// The names of the edge's classes, if there is one.

@@ -1,6 +1,6 @@
 //! The dependencies between numbered classes, each with the place where it was first seen, and where
 //! they lead.
-ghost use Rattle.std.specs.Prelude.{◌≡◌, ℕ, ◌+◌, ◌<◌, ◌≤◌, List, Option, OnErr, OnOk, [], All};
+ghost use Rattle.std.specs.Prelude.{◌≡◌, ℕ, ◌+◌, ◌<◌, ◌≤◌, List, Option, OnErr, OnOk, [], All, true};
 ghost use Rattle.std.specs.Prelude.{length, take, vec_len, vec_capacity};
 ghost use Rattle.ld_class.specs.Names.{PlainClass};
 ghost use Rattle.ld_graph.specs.declared.graph.TheConstants.{MOST_GRAPH_CLASSES};
@@ -16,11 +16,15 @@ ghost use Rattle.ld_graph.specs.Edges.{PlainGraph};
 ghost use Rattle.ld_graph.specs.Order.{IsInserted};
 ghost use Rattle.ld_union.specs.Inner.Union.{AreBetween, AreWitnessed, IsCycleEdge, edges_of, named_edge};
 ghost use Rattle.ld_union.specs.Inner.Union.{with_seen};
+ghost use Rattle.ld_union.specs.Inner.Earlier.{AreEarlier, is_earlier};
+ghost use Rattle.std.specs.List.{list_any};
 
+mod earlier;
 mod words;
 
-use crate::news::NewBit;
-use crate::states::PerState;
+use crate::delta::NewBit;
+use crate::dependencies::earlier::Earlier;
+use crate::reaches::PerState;
 use ld_graph::{Edge, Graph, Insert, Reach, Steps};
 use ld_rules::Witness;
 use std::alloc::{AllocError, Global};
@@ -44,8 +48,11 @@ pub(crate) struct Dependencies {
     pub(crate) closing: Option<Edge>,
     /// For each state what classes with the bit that its handlers acquire them lead to.
     pub(crate) reach: PerState<Reach>,
+    /// Which dependencies were seen before a trace.
+    earlier: Earlier,
     ghost same_edges: { graph.edges ≡ edges_of rows.items },
     ghost counted: { HaveClasses graph.classes reach },
+    ghost seen_earlier: { AreEarlier rows.items earlier },
 }
 
 impl Dependencies {
@@ -63,6 +70,7 @@ impl Dependencies {
             rows: Vec::new(alloc),
             closing: None,
             reach: PerState::<Reach>::new(alloc),
+            earlier: Earlier::new(alloc),
         }
     }
 
@@ -139,6 +147,8 @@ impl Dependencies {
             → AreWitnessed classes self.old.rows.items first
             → AreWitnessed classes self.new.rows.items
             (with_seen first (named_edge classes edge) witness) }
+        ensures there { (n : ℕ) → witness.number < n
+            → list_any (is_earlier edge n) self.new.rows.items ≡ true }
     {
         let mut steps = Steps::new();
         let (place, answer) = self.graph.insert_full(edge.from, edge.to, &mut steps);
@@ -169,6 +179,8 @@ impl Dependencies {
             → AreWitnessed classes self.old.rows.items first
             → AreWitnessed classes self.new.rows.items
             (with_seen first (named_edge classes edge) witness) }
+        ensures there { (n : ℕ) → witness.number < n
+            → list_any (is_earlier edge n) self.new.rows.items ≡ true }
     {
         let known = &mut self.rows[number];
         // Mostly the numbers of the traces tell it.

@@ -4,22 +4,22 @@
 
 mod alarms;
 mod by_name;
+mod delta;
 mod dependencies;
 mod findings;
-mod news;
 mod reaches;
-mod rows;
-mod states;
 mod union;
 mod usage;
 mod walk;
+mod walk_list;
 
 pub use alarms::{Alarms, Forbidden, Found};
+pub use delta::{Delta, NewBit};
 pub use dependencies::Witnessed;
-pub use findings::{ConflictRow, CycleRow, Findings, ForbiddenRow, findings_of};
-pub use news::{NewBit, News};
-pub use rows::Rows;
-pub use states::PerState;
+pub use findings::{
+    ConflictRow, CycleRow, Findings, ForbiddenRow, ForbiddenRows, Rows, findings_of,
+};
+pub use reaches::PerState;
 pub use union::Union;
 pub use usage::UsageRow;
-pub use walk::Walk;
+pub use walk::{Names, Walk};

@@ -1,6 +1,5 @@
 //! For each interrupt state, which classes walks lead to from those that handlers of the state acquire.
-ghost use Rattle.std.specs.Prelude.{◌≡◌, ◌++◌, ◌∷◌, [], ℕ, List, ◌+◌, ◌<◌, ◌≤◌};
-ghost use Rattle.std.specs.Prelude.{All, Contains, IsSome, OnOk, length};
+ghost use Rattle.std.specs.Prelude.{◌≡◌, ◌++◌, ◌∷◌, [], ℕ, List, ◌+◌, ◌<◌, ◌≤◌, All, Contains, IsSome, OnOk, length};
 ghost use Rattle.ld_graph.specs.Edges.{IsEdge};
 ghost use Rattle.ld_graph.specs.declared.graph.TheConstants.{MOST_GRAPH_CLASSES};
 ghost use Rattle.ld_graph.specs.Reach.{IsReach, no_reach, source_of, with_unreached};
@@ -8,8 +7,7 @@ ghost use Rattle.ld_rules.specs.Usage.{IsBit};
 ghost use Rattle.ld_union.specs.Inner.Reached.{AreFurther, HaveClasses, IsSeeded, StayExact};
 ghost use Rattle.ld_union.specs.Inner.States.{of_state};
 
-use crate::news::NewBit;
-use crate::states::PerState;
+use crate::delta::NewBit;
 use ld_class::Usage;
 use ld_graph::{Edge, Graph, Reach, Reader};
 use ld_trace::State;
@@ -123,6 +121,27 @@ impl PerState<Reach> {
         PerState {
             hard: self.hard.reached().len(),
             soft: self.soft.reached().len(),
+        }
+    }
+}
+
+/// One for each of the two states.
+#[derive(Clone, Copy, Debug, Drop, PartialEq, Eq)]
+pub struct PerState<T> {
+    /// That of hard.
+    pub hard: T,
+    /// That of soft.
+    pub soft: T,
+}
+
+impl<T: Copy> PerState<T> {
+    /// That of the state.
+    pub fn get(&self, state: State) -> T
+        ensures { result ≡ of_state self.now state }
+    {
+        match state {
+            State::Hard => self.hard,
+            State::Soft => self.soft,
         }
     }
 }

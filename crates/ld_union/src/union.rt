@@ -7,17 +7,17 @@ ghost use Rattle.ld_rules.specs.Dependency.{Dependency};
 ghost use Rattle.ld_rules.specs.Union.{union_classes};
 ghost use Rattle.ld_rules.specs.Usage.{Use};
 ghost use Rattle.ld_batch.specs.Inner.Names.{AreThere};
-ghost use Rattle.ld_union.specs.Inner.News.{Tells};
+ghost use Rattle.ld_union.specs.Inner.Delta.{Tells};
 ghost use Rattle.ld_union.specs.Inner.Reached.{IsSourceAt};
 ghost use Rattle.ld_union.specs.Inner.States.{of_state};
 ghost use Rattle.ld_union.specs.Inner.Union.{Adds, AreBetween, AreUsed, AreWitnessed, edges_of};
 ghost use Rattle.ld_union.specs.Inner.Union.{IsCycleEdge, known_row};
 ghost use Rattle.ld_union.specs.Usage.{bits_of};
 
+use crate::delta::Delta;
 use crate::dependencies::{Dependencies, Witnessed};
-use crate::news::News;
 use crate::usage::{UsageRow, add_usage};
-use ld_batch::{Guesses, Shown, intern_all};
+use ld_batch::{Hints, Shown, intern_all};
 use ld_class::{ClassName, Classes};
 use ld_graph::{Edge, Graph};
 use ld_rules::Witness;
@@ -77,49 +77,49 @@ impl<'a> Union<'a> {
     }
 
     /// Adds what the traces of a batch show, where those behind it were added already, and writes over
-    /// `news` what of it is new. Classes are looked for where the guesses say first; the guesses then have their
+    /// `delta` what of it is new. Classes are looked for where the hints say first; the hints then have their
     /// places, as far as there is memory for them.
     ///
     /// # Errors
     ///
     /// `AllocError` where a growth of memory was refused. Nothing has changed then but spare memory,
-    /// `news` and the guesses.
+    /// `delta` and the hints.
     pub fn add(
         &mut self,
         batch: &Shown<'_, 'a>,
-        guesses: &mut Guesses,
-        news: &mut News,
+        hints: &mut Hints,
+        delta: &mut Delta,
     ) -> Result<(), AllocError>
         requires few { length self.old.classes + length batch.now.classes ≤ MOST_NAMES }
         requires there { AreThere self.old.classes (union_classes batch.now.behind) }
         ensures added { OnOk result (Adds batch.now.behind batch.now.sources self.old self.new) }
-        ensures told { OnOk result (Tells self.old self.new news.new) }
+        ensures told { OnOk result (Tells self.old self.new delta.new) }
         ensures refused { OnErr result (self.new ≡ self.old) }
     {
-        news.first_reached = self.dependencies.reach.counts();
+        delta.first_reached = self.dependencies.reach.counts();
         let behind = batch.classes_behind();
         let classes = batch.classes().len();
         let new = classes - behind;
         self.dependencies.room(new, batch.count())?;
         self.usage.reserve(new)?;
-        news.bits.clear();
-        news.bits.reserve(batch.usage().len())?;
+        delta.bits.clear();
+        delta.bits.reserve(batch.usage().len())?;
         let numbers = batch.class_numbers();
-        intern_all(&mut self.classes, batch.classes(), behind, numbers, guesses)?;
-        // From here on no refusal is answered: a guess without memory is left out.
+        intern_all(&mut self.classes, batch.classes(), behind, numbers, hints)?;
+        // From here on no refusal is answered: a hint without memory is left out.
         self.dependencies.enter_classes(self.classes.len());
         let Ok(()) = self.usage.resize(self.classes.len(), UsageRow::unused()) else {
             unreachable!()
         };
-        self.dependencies.add(batch, &self.classes, guesses);
+        self.dependencies.add(batch, &self.classes, hints);
         add_usage(
             &mut self.usage,
             batch,
             &self.classes,
-            guesses,
-            &mut news.bits,
+            hints,
+            &mut delta.bits,
         );
-        self.dependencies.seed_all(&news.bits);
+        self.dependencies.seed_all(&delta.bits);
         Ok(())
     }
 

@@ -9,13 +9,14 @@ ghost use Rattle.ld_rules.specs.Union.{earlier, use_witness};
 ghost use Rattle.ld_rules.specs.Usage.{Bit, IsBit, Use, bit_of, same_bit};
 ghost use Rattle.ld_batch.specs.Batch.{first_since};
 ghost use Rattle.ld_batch.specs.Inner.Names.{AreThere};
-ghost use Rattle.ld_union.specs.Inner.News.{TellsBits};
+ghost use Rattle.ld_union.specs.Inner.Delta.{TellsBits};
+ghost use Rattle.ld_union.specs.Inner.Seen.{first_in};
 ghost use Rattle.ld_union.specs.Inner.Union.{AreUsed, with_bit, with_first, with_first_use};
 ghost use Rattle.ld_union.specs.Usage.{bits, bits_of, row_of};
 
-use crate::news::NewBit;
+use crate::delta::NewBit;
 use bitflags::Flags;
-use ld_batch::{Guesses, Shown, place_in};
+use ld_batch::{Hints, Shown, place_in};
 use ld_class::{Classes, Usage};
 use ld_rules::Witness;
 
@@ -62,8 +63,9 @@ impl UsageRow {
     /// Where the bit was first seen, or `None` where the class doesn't have it.
     pub fn witness(&self, bit: Usage) -> Option<Witness>
         requires { IsBit bit }
-        ensures { (first : Bit → Option Witness) → self.now ≡ row_of first
+        ensures first { (first : Bit → Option Witness) → self.now ≡ row_of first
             → result ≡ first (bit_of bit) }
+        ensures at { result ≡ first_in self.now (bit_of bit) }
     {
         self.first[place_of(bit)]
     }
@@ -93,7 +95,7 @@ pub(crate) fn add_usage(
     rows: &mut [UsageRow],
     batch: &Shown<'_, '_>,
     names: &Classes<'_>,
-    guesses: &mut Guesses,
+    hints: &mut Hints,
     bits: &mut Vec<NewBit>,
 )
     requires count { length names.now ≡ length rows.old }
@@ -109,7 +111,7 @@ pub(crate) fn add_usage(
 {
     for seen in batch.usage() {
         let number = batch.class_number(seen.class);
-        let class = place_in(names, batch.classes(), seen.class, number, guesses);
+        let class = place_in(names, batch.classes(), seen.class, number, hints);
         let shown = NewBit {
             class,
             bit: seen.bit,

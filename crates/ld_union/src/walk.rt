@@ -33,7 +33,42 @@ impl<'u, 'a> Walk<'u, 'a> {
         Walk { classes, numbers }
     }
 
-    /// How many classes it goes over.
+    /// The names of its classes. Takes no memory.
+    pub fn names(&self) -> Names<'_, 'a>
+        ensures { result ≡ self.now }
+    {
+        Names::new(self.classes, &self.numbers)
+    }
+}
+
+/// The names of the classes of a walk that something else keeps, seen as the list of them.
+#[derive(Drop)]
+pub struct Names<'w, 'a> {
+    classes: &'w Classes<'a>,
+    numbers: &'w [u32],
+}
+
+impl<'w, 'a> Model for Names<'w, 'a> {
+    ghost use Rattle.std.specs.Prelude.{◌<◌, All, List, length, map, slice_index_or};
+    ghost use Rattle.ld_class.specs.Names.{PlainClass, no_class};
+
+    ghost Value = { List PlainClass };
+
+    ghost view = { λ w. map (λ n. slice_index_or w.classes.now n no_class) w.numbers.now };
+
+    ghost invariant = { λ w. All (λ c. c < length w.classes.now) w.numbers.now };
+}
+
+impl<'w, 'a> Names<'w, 'a> {
+    /// The names of the classes with these numbers.
+    pub(crate) fn new(classes: &'w Classes<'a>, numbers: &'w [u32]) -> Names<'w, 'a>
+        requires { All (λ c. c < length classes.now) numbers.now }
+        ensures { result ≡ map (λ n. slice_index_or classes.now n no_class) numbers.now }
+    {
+        Names { classes, numbers }
+    }
+
+    /// How many classes the walk goes over.
     pub fn len(&self) -> usize
         ensures { result ≡ length self.now }
     {

@@ -1,6 +1,5 @@
 //! A book behind a lock, which several threads feed.
-ghost use Rattle.std.specs.Prelude.{◌≡◌, ◌≢◌, ◌≤◌, ◌++◌, ◌↔◌, ◌∷◌, [], Some, All, length};
-ghost use Rattle.std.specs.Prelude.{IfErr, IfOk, IsErr, IsSome, OnOk};
+ghost use Rattle.std.specs.Prelude.{◌≡◌, ◌≢◌, ◌≤◌, ◌++◌, ◌↔◌, ◌∷◌, [], Some, All, length, IfErr, IfOk, IsErr, IsSome, OnOk};
 ghost use Rattle.std.specs.List.{Contains};
 ghost use Rattle.ld_book.specs.Totals.{event_count};
 ghost use Rattle.ld_work.specs.Desk.{IsAddition, IsEvent, sum_of, tally_of};
@@ -9,7 +8,6 @@ ghost use Rattle.ld_work.specs.Inner.Seen.{entries_of};
 use crate::feeder::{Feeder, MOST_FEEDERS, Tally};
 use crate::kept::Kept;
 use crate::locked::Locked;
-use crate::scope::Scope;
 use crate::sums::{audited, joined};
 use ld_book::{AddRefusal, Batch, BatchRefusal, Book, Refusal, Series};
 use ld_facts::Facts;
@@ -224,7 +222,7 @@ impl<'d, 'a, T: Ledger, E: Ledger, S: Scope, H: Room> Look<'d, 'a, T, E, S, H> {
 
     /// Adds the traces of a batch to the desk's book, as `Book::add_from` does, and counts them in the
     /// feeder's tally. All have to be among those that the book may list. The batch stays as it is, but for
-    /// its guesses, so that it can be cleared once the look has ended.
+    /// its hints, so that it can be cleared once the look has ended.
     ///
     /// # Errors
     ///
@@ -324,4 +322,16 @@ impl<'d, 'a, T: Ledger, E: Ledger, H: Room> Look<'d, 'a, T, E, Brand, H> {
             Err(AddRefusal::Memory) => Err(BatchRefusal::Memory(batch)),
         }
     }
+}
+
+/// Which sources the book of a desk may list. Only proofs read it. `Brand` lets the book list any; where a function
+/// over a scope is called with `Brand`, the proof of the call may pick others.
+pub trait Scope {
+    ghost use Rattle.ld_trace.specs.Sources.{PlainSource};
+
+    ghost may_list: { PlainSource → Type 0 };
+}
+
+impl Scope for Brand {
+    ghost may_list = { λ _. Unit {0} };
 }

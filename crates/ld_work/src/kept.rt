@@ -7,9 +7,9 @@ ghost use Rattle.ld_work.specs.Desk.{IsAddition};
 ghost use Rattle.ld_trace.specs.Sources.{plain};
 ghost use Rattle.ld_work.specs.Inner.Seen.{entries_of, entry_of};
 
+use crate::desk::Scope;
 use crate::feeder::Feeder;
 use crate::locked::Locked;
-use crate::scope::Scope;
 use ld_book::{AddRefusal, Batch, Refusal, Series};
 use ld_facts::{Facts, Listed};
 use ld_history::{Front, Keeper, Noted, Room};

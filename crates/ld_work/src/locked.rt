@@ -5,8 +5,8 @@ ghost use Rattle.ld_book.specs.Totals.{event_count};
 ghost use Rattle.ld_work.specs.Desk.{IsAddition};
 ghost use Rattle.ld_work.specs.Inner.Seen.{entries_of};
 
+use crate::desk::Scope;
 use crate::feeder::Feeder;
-use crate::scope::Scope;
 use crate::sums::{added_since, count};
 use ld_book::{AddRefusal, Batch, Book, Refusal, Series};
 use ld_facts::Facts;

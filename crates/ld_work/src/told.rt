@@ -4,9 +4,8 @@ ghost use Rattle.std.specs.List.{last_or};
 ghost use Rattle.ld_batch.specs.Batch.{nothing_shown};
 ghost use Rattle.ld_trace.specs.Sources.{Fits, plain};
 
-use crate::desk::Desk;
+use crate::desk::{Desk, Scope};
 use crate::feeder::Feeder;
-use crate::scope::Scope;
 use ld_book::{AddRefusal, Series};
 use ld_history::{Front, Room};
 use ld_trace::Source;

@@ -6,11 +6,10 @@ ghost use Rattle.ld_tickets.specs.Draw.{IsSeatOf};
 ghost use Rattle.ld_work.specs.Inner.Uneven.{IsUneven};
 ghost use Rattle.ld_work.specs.Work.{ListsEachOnce};
 
-use crate::desk::Desk;
+use crate::desk::{Desk, Scope};
 use crate::even::uneven;
 use crate::feeder::{Feeder, MOST_FEEDERS};
 use crate::gate::Gate;
-use crate::scope::Scope;
 use crate::told::{Portion, Told};
 use ld_book::Book;
 use ld_history::{Opened, Room};

@@ -260,9 +260,10 @@ fn expect_cycle<R: Abort>(
 ) {
     assert_eq!(rt; (row.from, row.to), ends);
     assert_eq!(rt; Some(row.at), at);
-    assert_eq!(rt; row.via.len(), via.len());
+    let names = row.via.names();
+    assert_eq!(rt; names.len(), via.len());
     for (place, name) in via.iter().enumerate() {
-        assert_eq!(rt; row.via.name(place), *name);
+        assert_eq!(rt; names.name(place), *name);
     }
 }
 
@@ -274,7 +275,8 @@ fn expect_three_cycles<R: Abort>(rt: &R, findings: &Findings<'_, '_>) {
     expect_cycle(rt, &cycles[1], (B, C), witness(1, 6), &[C, A, B]);
     expect_cycle(rt, &cycles[2], (C, A), witness(2, 9), &[A, B, C]);
     assert!(rt; findings.conflicts.items().is_empty());
-    assert!(rt; findings.forbidden.items().is_empty());
+    assert_eq!(rt; findings.forbidden.hard.len(), 0);
+    assert_eq!(rt; findings.forbidden.soft.len(), 0);
 }
 
 /// Asserts the findings of a book of three traces that are on one cycle, where they aren't refused.
@@ -313,7 +315,8 @@ fn a_hundred_rows_of_each_kind_are_found(rt: HostRuntime) -> Result<(), Fail> {
     let findings = book.findings(rt.alloc()).expect(&rt, "the findings");
     assert_eq!(rt; findings.cycles.items().len(), 100);
     assert_eq!(rt; findings.conflicts.items().len(), 100);
-    assert_eq!(rt; findings.forbidden.items().len(), 100);
+    assert_eq!(rt; findings.forbidden.hard.len(), 100);
+    assert_eq!(rt; findings.forbidden.soft.len(), 0);
     drop(findings);
     drop(book);
     Ok(())

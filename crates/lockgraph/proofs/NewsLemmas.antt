@@ -3,7 +3,7 @@ use Rattle.std.proofs.Common.{◌≡◌, ◌∙◌, ℕ, List, ap}
 use Rattle.std.specs.List.{list_any}
 use Rattle.std.specs.List.Sorted.{IsPermutation}
 use Rattle.ld_trace.specs.Sources.{PlainSource}
-use Rattle.ld_check.specs.OfReport.OfBook.declared.totals.Totals.{Totals}
+use Rattle.ld_check.specs.OfReport.OfBook.declared.listing.Totals.{Totals}
 use Rattle.ld_check.proofs.OfReport.OfBook.PermutedLemmas.{totals-permuted}
 use Rattle.ld_check.specs.OfReport.declared.verdict.Verdict.{Verdict}
 use Rattle.ld_check.proofs.OfReport.Permuted.{report-permuted}

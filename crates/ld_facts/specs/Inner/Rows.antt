@@ -8,7 +8,7 @@ use Rattle.ld_tables.specs.declared.uses.UsageFact.{UsageFact}
 use Rattle.ld_batch.specs.declared.rows.WitnessedEdge.{WitnessedEdge}
 use Rattle.ld_batch.specs.declared.rows.WitnessedUse.{WitnessedUse}
 use Rattle.ld_batch.specs.declared.rows.WitnessedWord.{WitnessedWord}
-use Rattle.ld_tables.specs.declared.words.Telling.{Telling}
+use Rattle.ld_tables.specs.declared.masks.NewEdges.{NewEdges}
 
 -- the place of a class among those of a batch, by its number in the scan
 abbrev pub place_in : List ℕ → ℕ → ℕ
@@ -32,7 +32,7 @@ edge_of numbers number fact = record {
 }
 
 -- what the trace of this number told at one line
-abbrev pub word_of : ℕ → Telling → WitnessedWord
+abbrev pub word_of : ℕ → NewEdges → WitnessedWord
 word_of number telling = record {
   number = telling.number;
   block = telling.word.block;

@@ -11,10 +11,10 @@ use Rattle.ld_trace.specs.Events.PlainEvent.{Acquire, Try, Nested}
 use Rattle.ld_rules.specs.declared.outcome.TheConstants.{MOST_CLASSES, MOST_HELD, MOST_TASKS}
 use Rattle.ld_tables.specs.declared.interrupts.Interrupts.{Interrupts}
 use Rattle.ld_facts.specs.declared.scan.Scan.{Scan}
-use Rattle.ld_facts.specs.declared.stop.Stop.{Stop}
-use Rattle.ld_facts.specs.declared.stop.Stop.TheVariants.{Fault}
-use Rattle.ld_facts.specs.declared.taking.Taking.{Taking}
-use Rattle.ld_facts.specs.declared.taking.Taking.TheVariants.{Nesting, Trying, Waiting}
+use Rattle.ld_facts.specs.declared.scan.Stop.{Stop}
+use Rattle.ld_facts.specs.declared.scan.Stop.TheVariants.{Fault}
+use Rattle.ld_facts.specs.declared.acquire_kind.AcquireKind.{AcquireKind}
+use Rattle.ld_facts.specs.declared.acquire_kind.AcquireKind.TheVariants.{Nesting, Trying, Waiting}
 use Rattle.ld_tables.specs.Inner.Edges.{AreApart}
 use Rattle.ld_tables.specs.Inner.Interrupts.{fresh, levels_of, starts_of, states_of}
 use Rattle.ld_rules.specs.Inner.Levels.{levels, starts, states}
@@ -190,17 +190,17 @@ pub record HasTask (old : Scan) (name : List ℕ) (id : ℕ) (new : Scan) : Type
   pub uses : new.uses ≡ old.uses
 
 -- an acquisition by this way of taking a lock
-abbrev pub acquisition : Taking → List ℕ → PlainLock → PlainEvent
+abbrev pub acquisition : AcquireKind → List ℕ → PlainLock → PlainEvent
 acquisition Waiting task lock = Acquire task lock
 acquisition Trying task lock = Try task lock
 acquisition (Nesting sub) task lock = Nested task lock sub
 
 -- whether the task may have waited for it, whatever task and lock
-abbrev pub waits : Taking → Bool
+abbrev pub waits : AcquireKind → Bool
 waits how = may_wait (acquisition how [] (record { class = []; instance = None }))
 
 -- the class that it acquires
-abbrev pub class_taken : Taking → PlainLock → PlainClass
+abbrev pub class_taken : AcquireKind → PlainLock → PlainClass
 class_taken how lock = class_with lock (sub_taken (acquisition how [] lock))
 
 -- the scan when the task waits at this line for a lock of the class with this number: the dependencies are told, in

@@ -1,7 +1,7 @@
 -- What an edge that is new does to the ranks. No public contract cites this file.
 use Rattle.std.specs.Prelude.{◌≡◌, ℕ, ◌<◌, Bool, true, false, List, slice_index}
-use Rattle.ld_graph.specs.declared.placed.Insert.{Insert}
-use Rattle.ld_graph.specs.declared.placed.Insert.TheVariants.{Known, Kept, Moved, Closed, AfterCycle}
+use Rattle.ld_graph.specs.declared.ranks.Insert.{Insert}
+use Rattle.ld_graph.specs.declared.ranks.Insert.TheVariants.{Known, Kept, Moved, Closed, AfterCycle}
 use Rattle.ld_graph.specs.Inner.Repairs.{IsRepaired, IsOrReaches}
 
 -- the answer for an edge from a to b that isn't there yet, whether there was a cycle and is one, and

@@ -4,7 +4,7 @@ use Rattle.std.specs.Prelude.{Some, None, drop, fold, if◌then◌else◌, lengt
 use Rattle.std.specs.Option.{option_eq}
 use Rattle.ld_tables.specs.declared.chains.Link.{Link}
 use Rattle.ld_tables.specs.declared.chains.Run.{Run}
-use Rattle.ld_tables.specs.declared.words.Mask.{Mask}
+use Rattle.ld_tables.specs.declared.masks.Mask.{Mask}
 use Rattle.ld_tables.specs.declared.chains.TheConstants.{MOST_CHAINS, MOST_KEPT}
 use Rattle.ld_rules.specs.declared.outcome.TheConstants.{MOST_HELD}
 

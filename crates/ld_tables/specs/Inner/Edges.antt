@@ -5,9 +5,9 @@ use Rattle.std.specs.List.{list_any, AllPairs}
 use Rattle.ld_class.specs.Blocks.{IsBlock, bits_on, classes_in, is_on}
 use Rattle.ld_rules.specs.Inner.Scanned.{AreSame}
 use Rattle.ld_tables.specs.declared.edges.EdgeFact.{EdgeFact}
-use Rattle.ld_tables.specs.declared.words.Mask.{Mask}
-use Rattle.ld_tables.specs.declared.words.Telling.{Telling}
-use Rattle.ld_tables.specs.declared.words.Word.{Word}
+use Rattle.ld_tables.specs.declared.masks.Mask.{Mask}
+use Rattle.ld_tables.specs.declared.masks.NewEdges.{NewEdges}
+use Rattle.ld_tables.specs.declared.masks.Word.{Word}
 
 -- of the same two classes
 abbrev pub same_pair : EdgeFact → EdgeFact → Bool
@@ -26,16 +26,16 @@ abbrev pub edge_to : ℕ → ℕ → ℕ → EdgeFact
 edge_to class line from = record { from = from; to = class; line = line }
 
 -- the dependencies that a word's bits stand for, told at one line
-abbrev pub edges_in : Telling → List EdgeFact
+abbrev pub edges_in : NewEdges → List EdgeFact
 edges_in telling = map (edge_to telling.word.to telling.line) (classes_in telling.word.block telling.bits)
 
 -- the dependencies that were told, in their order
-abbrev pub edges_of : List Telling → List EdgeFact
+abbrev pub edges_of : List NewEdges → List EdgeFact
 edges_of tellings = flat_map edges_in tellings
 
 -- what was told, and the words by their numbers
 pub record KeptEdges : Type 0 where
-  pub tellings : List Telling
+  pub tellings : List NewEdges
   pub words : List Word
 
 abbrev pub no_word : Word
@@ -50,21 +50,21 @@ pub record AreMore (old new : List Word) : Type 0 where
   pub kept : (n : ℕ) → n < length old → word_at new n ≡ word_at old n
 
 -- what was told has this bit of the word with this number
-abbrev pub has_told : List Telling → ℕ → ℕ → Bool
-has_told tellings number place = list_any (λ (t : Telling). nat_eq number t.number && is_on t.bits place) tellings
+abbrev pub has_told : List NewEdges → ℕ → ℕ → Bool
+has_told tellings number place = list_any (λ (t : NewEdges). nat_eq number t.number && is_on t.bits place) tellings
 
 -- Each word stands there once, and its block is one of classes with numbers of 32 bits. What was told is of words by
 -- their numbers, and each telling has a bit; for each word the bits are on that were told, each once.
-pub record AreTold (words : List Word) (told : List ℕ) (tellings : List Telling) : Type 0 where
+pub record AreTold (words : List Word) (told : List ℕ) (tellings : List NewEdges) : Type 0 where
   pub distinct : AllPairs (λ a b. a ≢ b) words
   pub low : All (λ (w : Word). IsBlock w.block) words
   pub many : length told ≡ length words
-  pub within : All (λ (t : Telling). t.number < length words) tellings
-  pub each : All (λ (t : Telling). word_at words t.number ≡ t.word) tellings
-  pub some : All (λ (t : Telling). 0 < t.bits) tellings
+  pub within : All (λ (t : NewEdges). t.number < length words) tellings
+  pub each : All (λ (t : NewEdges). word_at words t.number ≡ t.word) tellings
+  pub some : All (λ (t : NewEdges). 0 < t.bits) tellings
   pub noted : (n k : ℕ) → n < length words → k < 64 → is_on (slice_index_or told n 0) k ≡ has_told tellings n k
   pub apart :
-      AllPairs (λ (s t : Telling). (k : ℕ) → k < 64 → s.number ≡ t.number → is_on s.bits k ≡ true → is_on t.bits k ≡ false)
+      AllPairs (λ (s t : NewEdges). (k : ℕ) → k < 64 → s.number ≡ t.number → is_on s.bits k ≡ true → is_on t.bits k ≡ false)
       tellings
 
 -- a bit of one of the masks passes the test, which asks for the number of its word and its place

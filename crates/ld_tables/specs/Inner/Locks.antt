@@ -5,9 +5,9 @@ use Rattle.std.specs.Prelude.{drop, slice_index_or, Option, None, Some, IfSome, 
 use Rattle.std.specs.List.{last_or, list_all, list_any, All}
 use Rattle.ld_trace.specs.Events.{PlainLock}
 use Rattle.ld_tables.specs.declared.edges.EdgeFact.{EdgeFact}
-use Rattle.ld_tables.specs.declared.words.Mask.{Mask}
-use Rattle.ld_tables.specs.declared.words.Telling.{Telling}
-use Rattle.ld_tables.specs.declared.words.Word.{Word}
+use Rattle.ld_tables.specs.declared.masks.Mask.{Mask}
+use Rattle.ld_tables.specs.declared.masks.NewEdges.{NewEdges}
+use Rattle.ld_tables.specs.declared.masks.Word.{Word}
 use Rattle.ld_tables.specs.declared.edges.TheConstants.{MOST_WORDS}
 use Rattle.ld_tables.specs.Inner.Chains.{HasRoom, KeptChains, chain_before, chains_of}
 use Rattle.ld_tables.specs.Inner.Edges.{AreMasks, AreToldTo, KeptEdges, edge_to, edges_of, same_pair}
@@ -15,7 +15,7 @@ use Rattle.ld_rules.specs.Held.{same_lock}
 use Rattle.ld_tables.specs.Inner.Interrupts.{fresh, start_now, starts_of}
 use Rattle.ld_tables.specs.Inner.Stacks.{PlainHeld, PlainStack, empty_stack, plain_held}
 use Rattle.ld_tables.specs.declared.held.Held.{Held}
-use Rattle.ld_tables.specs.declared.locks.Before.{Before}
+use Rattle.ld_tables.specs.declared.locks.LocksStart.{LocksStart}
 use Rattle.ld_tables.specs.declared.interrupts.Interrupts.{Interrupts}
 
 -- a lock that a task holds, and the number of its class
@@ -138,8 +138,8 @@ pub record AreTied (stacks : List PlainStack) (chains : List (List ℕ)) (told :
   pub complete : All (λ number. HasItsEdges chains edges number) told
 
 -- of what was there when the trace began, the dependencies of each chain that was told are there too
-pub record IsAtStart (before : Before) (chains : List (List ℕ)) (told : List ℕ)
-    (tellings : List Telling) : Type 0 where
+pub record IsAtStart (before : LocksStart) (chains : List (List ℕ)) (told : List ℕ)
+    (tellings : List NewEdges) : Type 0 where
   pub edges_within : before.edges ≤ length tellings
   pub told_within : before.told ≤ length told
   pub complete :
@@ -152,7 +152,7 @@ pub record IsRoomy (chains : KeptChains) (edges : KeptEdges) : Type 0 where
 
 -- what ties all that is kept; and while there is no task, and nothing was told, there is room
 pub record IsKept (stacks : List PlainStack) (chains : KeptChains) (told : List ℕ)
-    (edges : KeptEdges) (before : Before) : Type 0 where
+    (edges : KeptEdges) (before : LocksStart) : Type 0 where
   pub tied : AreTied stacks (chains_of chains.links) told (edges_of edges.tellings)
   pub start : IsAtStart before (chains_of chains.links) told edges.tellings
   pub masked : HasItsMasks (chains_of chains.links) chains.masks edges.words

@@ -1,4 +1,4 @@
--- Distinct numbers, and by each its place among them, or its mark. Only the invariants of `Numbers` and `Marked`
+-- Distinct numbers, and by each its place among them, or its mark. Only the invariants of `SparseSet` and `MarkedSet`
 -- cite it.
 use Rattle.std.specs.Prelude.{◌≡◌, ◌≢◌, ◌<◌, ℕ, Bool, false, List, length, nat_eq, slice_index_or}
 use Rattle.std.specs.List.{list_any, AllPairs}

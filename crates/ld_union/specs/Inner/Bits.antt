@@ -3,7 +3,7 @@ use Rattle.std.specs.Prelude.{◌≡◌, ℕ, true, List, slice_index_or}
 use Rattle.ld_class.specs.declared.usage.Usage.{Usage}
 use Rattle.ld_class.specs.Usage.{has_bit, no_bits}
 use Rattle.ld_rules.specs.Usage.{Bit, usage_of}
-use Rattle.ld_union.specs.declared.news.NewBit.{NewBit}
+use Rattle.ld_union.specs.declared.delta.NewBit.{NewBit}
 
 -- the class has this bit; a class that has no bits of its own has none
 abbrev pub HasBitAt : List Usage → ℕ → Bit → Type 0

@@ -12,7 +12,7 @@ use Rattle.ld_rules.specs.Usage.{Bit}
 use Rattle.ld_rules.specs.Usage.Bit.{In, On}
 use Rattle.ld_union.specs.declared.alarms.Found.{Found}
 use Rattle.ld_union.specs.Inner.Bits.{HasBitAt}
-use Rattle.ld_union.specs.Inner.News.{PlainNews, Tells}
+use Rattle.ld_union.specs.Inner.Delta.{PlainDelta, Tells}
 use Rattle.ld_union.specs.Inner.States.{of_state}
 use Rattle.ld_union.specs.Inner.Union.{IsCycleAt, PlainUnion}
 use Rattle.ld_union.specs.Alarms.{IsExact, PlainAlarms}
@@ -35,8 +35,8 @@ abbrev pub BitsGrow : List Usage → List Usage → Type 0
 BitsGrow old new = (class : ℕ) (bit : Bit) → HasBitAt old class bit → HasBitAt new class bit
 
 -- what is told is what is new of this union to one before it
-abbrev pub IsTold : PlainUnion → PlainNews → Type 0
-IsTold union news = (old : PlainUnion) × Tells old union news
+abbrev pub IsTold : PlainUnion → PlainDelta → Type 0
+IsTold union delta = (old : PlainUnion) × Tells old union delta
 
 -- each class has the bits that its name has in the union of these sources
 pub record AreBitsOf (classes : List PlainClass) (usage : List Usage) (sources : List PlainSource) : Type 0 where

@@ -8,8 +8,8 @@ use Rattle.ld_graph.specs.Walks.{HasWalk}
 use Rattle.ld_graph.specs.Reach.{IsReach, PlainReach, mark_of}
 use Rattle.ld_trace.specs.declared.event.State.{State}
 use Rattle.ld_rules.specs.Usage.Bit.{In}
-use Rattle.ld_union.specs.declared.news.NewBit.{NewBit}
-use Rattle.ld_union.specs.declared.states.PerState.{PerState}
+use Rattle.ld_union.specs.declared.delta.NewBit.{NewBit}
+use Rattle.ld_union.specs.declared.reaches.PerState.{PerState}
 use Rattle.ld_union.specs.Inner.Bits.{HasBitAt, new_bit}
 use Rattle.ld_union.specs.Inner.States.{of_state}
 

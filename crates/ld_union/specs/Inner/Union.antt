@@ -16,7 +16,7 @@ use Rattle.ld_rules.specs.Dependency.{Dependency, same_dependency}
 use Rattle.ld_rules.specs.Union.{dependency_witness, union_classes, use_witness}
 use Rattle.ld_rules.specs.Usage.{Bit, Use, same_bit, same_use}
 use Rattle.ld_union.specs.declared.dependencies.Witnessed.{Witnessed}
-use Rattle.ld_union.specs.declared.states.PerState.{PerState}
+use Rattle.ld_union.specs.declared.reaches.PerState.{PerState}
 use Rattle.ld_union.specs.declared.usage.UsageRow.{UsageRow}
 use Rattle.ld_union.specs.Inner.Reached.{IsReachOf}
 use Rattle.ld_union.specs.Inner.States.{of_state}

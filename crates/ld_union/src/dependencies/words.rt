@@ -11,14 +11,14 @@ ghost use Rattle.ld_union.specs.Inner.Noted.{AreNoted};
 ghost use Rattle.ld_union.specs.Inner.Union.{AreBetween, AreWitnessed, with_first};
 
 use super::Dependencies;
-use ld_batch::{Guesses, Shown, WitnessedWord, Words, place_in};
+use ld_batch::{Hints, Shown, WitnessedWord, Words, place_in};
 use ld_class::{ClassList, Classes};
 use ld_graph::Edge;
 
 impl Dependencies {
     /// Notes the dependencies of a batch whose classes are among these names, each where it was seen first: those that
     /// no source behind it shows.
-    pub(crate) fn add(&mut self, batch: &Shown<'_, '_>, names: &Classes<'_>, guesses: &mut Guesses)
+    pub(crate) fn add(&mut self, batch: &Shown<'_, '_>, names: &Classes<'_>, hints: &mut Hints)
         requires count { length names.now ≡ self.old.graph.classes }
         requires there { AreThere names.now batch.now.classes }
         requires spare_edges { length batch.now.edges ≤ self.old.graph.spare_edges }
@@ -35,7 +35,7 @@ impl Dependencies {
     {
         let words = batch.words();
         for word in words.words {
-            self.note_word(*word, &words, batch.classes(), names, guesses);
+            self.note_word(*word, &words, batch.classes(), names, hints);
         }
     }
 
@@ -46,7 +46,7 @@ impl Dependencies {
         words: &Words<'_>,
         classes: &ClassList<'_>,
         names: &Classes<'_>,
-        guesses: &mut Guesses,
+        hints: &mut Hints,
     )
         requires count { length names.now ≡ self.old.graph.classes }
         requires there { AreThere names.now classes.now }
@@ -60,13 +60,17 @@ impl Dependencies {
         if word.bits == 0 {
             return;
         }
-        let to = place_in(names, classes, words.place(word.to), word.to, guesses);
+        let to = place_in(names, classes, words.place(word.to), word.to, hints);
         let mut left = word.bits;
         while left != 0 {
             let bit = left.trailing_zeros();
             let number = 64 * word.block + bit;
-            let from = place_in(names, classes, words.place(number), number, guesses);
-            self.note(Edge { from, to }, word.witness);
+            let from = place_in(names, classes, words.place(number), number, hints);
+            let edge = Edge { from, to };
+            if !self.earlier.has(edge, word.witness.number) {
+                self.note(edge, word.witness);
+                self.earlier.add(edge, word.witness.number);
+            }
             left &= !(1 << bit);
         }
     }

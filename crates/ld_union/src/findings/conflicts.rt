@@ -9,8 +9,8 @@ ghost use Rattle.ld_union.specs.Inner.Union.{Shows};
 ghost use Rattle.ld_union.specs.Violations.{IsConflict};
 
 use crate::alarms::{in_bit, on_bit};
-use crate::findings::indexed::Indexed;
 use crate::findings::used::noted;
+use crate::findings::walks::Indexed;
 use crate::union::Union;
 use ld_class::ClassName;
 use ld_rules::Witness;

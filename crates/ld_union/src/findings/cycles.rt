@@ -10,8 +10,7 @@ ghost use Rattle.ld_union.specs.Inner.Union.{Shows};
 ghost use Rattle.ld_union.specs.Violations.{IsCycle};
 
 use crate::alarms::Found;
-use crate::findings::indexed::Indexed;
-use crate::findings::walks::walk_names;
+use crate::findings::walks::{Indexed, walk_names};
 use crate::union::Union;
 use crate::walk::Walk;
 use ld_class::ClassName;

@@ -1,20 +1,28 @@
-//! The walks that rows show.
+//! The walks that rows show, by a union with its classes by name.
+ghost use Rattle.ld_union.specs.Inner.ByName.{AreByName, by_name_props, class_name};
 ghost use Rattle.std.specs.Prelude.{◌≡◌, ◌<◌, All, IfOk, List, MatchOption, length, map};
 ghost use Rattle.ld_graph.specs.Edges.{IsEdge};
 ghost use Rattle.ld_graph.specs.Walks.{HasWalk};
 ghost use Rattle.ld_trace.specs.Sources.{PlainSource};
 ghost use Rattle.ld_rules.specs.Union.{dependency_witness};
 ghost use Rattle.ld_union.specs.Findings.{IsShown, plain_names};
-ghost use Rattle.ld_union.specs.Inner.ByName.{class_name};
 ghost use Rattle.ld_union.specs.Inner.Rows.{AreEnoughFrom};
 ghost use Rattle.ld_union.specs.Inner.Union.{Shows, edges_of};
 
-use crate::findings::indexed::Indexed;
+use crate::by_name::ByName;
 use crate::union::Union;
 use crate::walk::Walk;
 use ld_class::Classes;
 use ld_graph::Distance;
 use std::alloc::{AllocError, Global};
+
+/// A union, and its classes in the order of their names.
+#[derive(Clone, Copy)]
+pub(crate) struct Indexed<'u, 'o, 'a> {
+    pub(crate) union: &'u Union<'a>,
+    pub(crate) order: &'o ByName,
+    ghost named: { AreByName union.now.classes order.now.numbers.items order.now.places.items } by { Prim.hlevel by_name_props },
+}
 
 /// The names of the shown walk between these classes, by distances to the second one that are enough for
 /// it; or `None` where no walk leads there.

@@ -9,7 +9,7 @@ use Rattle.ld_batch.proofs.names.intern_all.Goals as goal
 pub loop-id-preserved : goal.loop-id-preserved
 loop-id-preserved c =
     let name : PlainClass = plain_class c.name-name.result in
-    let added : c.intern_guessed.new.names ≡ with_name c.loop-id.names name = search rules in
+    let added : c.intern_hinted.new.names ≡ with_name c.loop-id.names name = search rules in
     let more = c.args.more.now in
     let first = c.args.first in
     let id = c.loop-id.id in
@@ -20,7 +20,7 @@ loop-id-preserved c =
       counted = search rules;
       longer = subst (λ names. IsLonger c.args.names.now names (id + 1)) (sym added) (longer_more c.args.names.now c.loop-id.names name id c.loop-id.invariant.longer);
       there =
-          subst (AreThere c.intern_guessed.new.names)
+          subst (AreThere c.intern_hinted.new.names)
           (ap (λ n. take (first + id) more ++ n ∷ []) c.name-name.ensures.name ∙ sym (take_more more (first + id) no_class (omega (arith, within, length-drop first more))) ∙ ap (λ n. take n more) (omega arith))
           (subst (λ names. AreThere names (take (first + id) more ++ name ∷ [])) (sym added) (there-more c.loop-id.names (take (first + id) more) name c.loop-id.invariant.there));
     }

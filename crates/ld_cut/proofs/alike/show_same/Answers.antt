@@ -2,7 +2,7 @@
 use Rattle.std.proofs.Common.{◌≡◌, ◌≤◌, Bool, true, false, ap, arith}
 use Rattle.std.specs.Bool.{OnTrue}
 use Rattle.ld_reduce.specs.OfBook.Totals.{refused_count}
-use Rattle.ld_reduce.specs.OfBook.declared.totals.Totals.{Totals}
+use Rattle.ld_reduce.specs.OfBook.declared.listing.Totals.{Totals}
 use Rattle.ld_cut.proofs.ShowsLemmas.{alike-is}
 use Rattle.ld_cut.proofs.alike.show_same.Goals as goal
 

@@ -1,6 +1,6 @@
 use Rattle.std.specs.Prelude.{◌≡◌, ◌++◌, All, Some, map, take}
-use Rattle.ld_overview.specs.OfBook.Findings.{plain_cycle_row, plain_conflict_row, plain_forbidden_row}
-use Rattle.ld_rows.specs.declared.violations.Kind.TheVariants.{Conflict, Forbidden}
+use Rattle.ld_overview.specs.OfBook.Findings.{plain_cycle_row, plain_conflict_row}
+use Rattle.ld_rows.specs.declared.violations.Kind.TheVariants.{Conflict}
 use Rattle.ld_explain.specs.Rows.{cycle_said}
 use Rattle.ld_explain.specs.Steps.{AreFirst, IsEvery, violation_said}
 use Rattle.ld_explain.proofs.violations.chosen_of.Given as goal
@@ -17,13 +17,4 @@ invariant-loop-row-2 l = record {
   every : IsEvery l.choice → map violation_said l.all.items ≡
       map cycle_said (map plain_cycle_row l.findings.cycles)
       ++ map (λ row. (Conflict, Some row.state)) (map plain_conflict_row (take l.row-index l.findings.conflicts));
-}
-
-abbrev pub invariant-loop-row-3 : goal.invariant-loop-row-3
-invariant-loop-row-3 l = record {
-  first : All (AreFirst l.book) l.all.items;
-  every : IsEvery l.choice → map violation_said l.all.items ≡
-      map cycle_said (map plain_cycle_row l.findings.cycles)
-      ++ map (λ row. (Conflict, Some row.state)) (map plain_conflict_row l.findings.conflicts)
-      ++ map (λ row. (Forbidden, Some row.state)) (map plain_forbidden_row (take l.row-index l.findings.forbidden));
 }

@@ -11,7 +11,7 @@ returns-clause-clean c = IfOk-weaker c.text_of.result _ _ (λ text lines. says_c
 pub returns-then-count_of-eq0-clause-text : goal.returns-then-count_of-eq0-clause-text
 returns-then-count_of-eq0-clause-text c =
     IfOk-weaker c.quiet_text.result _ _
-    (λ text lines. quiet_report c.args.book.now (plain_findings c.in_ok-findings.findings) c.totals-totals.result c.count_of.result text.items c.in_ok-findings.ensures
+    (λ text lines. quiet_report c.args.book.now (plain_findings c.in_ok-findings.findings) c.totals-totals.result c.count_of.result text.items c.in_ok-findings.ensures.rows
     c.totals-totals.ensures.distinct c.totals-totals.ensures.totals c.count_of.ensures (search rules) (search rules) lines)
     c.quiet_text.ensures
 
@@ -19,6 +19,6 @@ pub returns-then-count_of-eq0-clause-clean : goal.returns-then-count_of-eq0-clau
 returns-then-count_of-eq0-clause-clean c =
     IfOk-weaker c.quiet_text.result _ _
     (λ text lines. says_clean c.args.book.now text.items
-    (quiet_report c.args.book.now (plain_findings c.in_ok-findings.findings) c.totals-totals.result c.count_of.result text.items c.in_ok-findings.ensures
+    (quiet_report c.args.book.now (plain_findings c.in_ok-findings.findings) c.totals-totals.result c.count_of.result text.items c.in_ok-findings.ensures.rows
     c.totals-totals.ensures.distinct c.totals-totals.ensures.totals c.count_of.ensures (search rules) (search rules) lines))
     c.quiet_text.ensures

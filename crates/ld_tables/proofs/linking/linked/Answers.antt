@@ -1,7 +1,7 @@
 use Rattle.std.proofs.Common.{◌≡◌, ◌++◌, ◌∷◌, [], List, ℕ, None, Result, Ok, ap, length, map, subst, sym, ◌∙◌}
 use Rattle.std.specs.declared.alloc.AllocError.{AllocError}
 use Rattle.ld_tables.specs.declared.held.Held.{Held}
-use Rattle.ld_tables.specs.declared.words.Word.{Word}
+use Rattle.ld_tables.specs.declared.masks.Word.{Word}
 use Rattle.ld_tables.specs.Inner.Chains.{KeptChains, chain_before, chains_of}
 use Rattle.ld_tables.specs.Inner.Locks.{HasItsMasks, IsChain, IsExtended}
 use Rattle.ld_tables.proofs.MaskedLemmas.{chain_then, extended_then, link_before, link_class, link_froms, masked_then, within_then}

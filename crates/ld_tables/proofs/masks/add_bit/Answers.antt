@@ -1,7 +1,7 @@
 use Rattle.std.proofs.Common.{◌≡◌, ◌<◌, ap, get_or, length, sym, ◌∙◌, arith}
 use Rattle.std.proofs.lemmas.Option.{MatchOption-at_some}
 use Rattle.std.specs.List.{list_any}
-use Rattle.ld_tables.specs.declared.words.Mask.{Mask}
+use Rattle.ld_tables.specs.declared.masks.Mask.{Mask}
 use Rattle.ld_tables.specs.Inner.Edges.{any_bit}
 use Rattle.ld_tables.proofs.MaskLemmas.{bits-push, bits-set, words-set}
 use Rattle.ld_tables.proofs.masks.add_bit.Goals as goal

@@ -1,7 +1,7 @@
 use Rattle.std.proofs.Common.{Option, ap, sym, ◌∙◌}
 use Rattle.std.specs.Option.{option_map}
 use Rattle.ld_class.specs.Names.{plain_class}
-use Rattle.ld_class.specs.declared.class_name.ClassName.{ClassName}
+use Rattle.ld_class.specs.declared.names.ClassName.{ClassName}
 use Rattle.ld_texts.specs.List.{is_under}
 use Rattle.ld_texts.proofs.ReaderLemmas.{is_under-told}
 use Rattle.ld_texts.proofs.list.is_under.Goals as goal

@@ -2,7 +2,7 @@ use Rattle.std.proofs.Common.{◌∙◌, All, arith, subst, sym}
 use Rattle.std.proofs.lemmas.Bool.{true≢false}
 use Rattle.std.proofs.lemmas.List.{take_all}
 use Rattle.std.proofs.lemmas.List.Elements.{All-more}
-use Rattle.ld_union.specs.declared.news.NewBit.{NewBit}
+use Rattle.ld_union.specs.declared.delta.NewBit.{NewBit}
 use Rattle.ld_union.specs.Inner.Numbers.{IsConflictAt}
 use Rattle.ld_union.specs.Usage.{bits_of}
 use Rattle.ld_union.proofs.alarms.conflict_among.Goals as goal

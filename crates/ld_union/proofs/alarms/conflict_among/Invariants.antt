@@ -1,5 +1,5 @@
 use Rattle.std.proofs.Common.{All, take}
-use Rattle.ld_union.specs.declared.news.NewBit.{NewBit}
+use Rattle.ld_union.specs.declared.delta.NewBit.{NewBit}
 use Rattle.ld_union.specs.Inner.Numbers.{IsConflictAt}
 use Rattle.ld_union.specs.Usage.{bits_of}
 use Rattle.ld_union.proofs.alarms.conflict_among.Given as goal

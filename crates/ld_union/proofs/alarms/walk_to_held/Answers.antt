@@ -5,7 +5,7 @@ use Rattle.ld_class.specs.Usage.{no_bits}
 use Rattle.ld_rules.specs.Usage.{usage_of}
 use Rattle.ld_rules.specs.Usage.Bit.{On}
 use Rattle.ld_union.specs.Inner.Numbers.{IsForbiddenAt}
-use Rattle.ld_union.specs.declared.news.NewBit.{NewBit}
+use Rattle.ld_union.specs.declared.delta.NewBit.{NewBit}
 use Rattle.ld_union.specs.Inner.Union.{edges_of}
 use Rattle.ld_union.specs.Usage.{bits_of}
 use Rattle.ld_union.proofs.alarms.walk_to_held.Goals as goal

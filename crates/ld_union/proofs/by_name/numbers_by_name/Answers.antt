@@ -1,7 +1,7 @@
 use Rattle.std.proofs.Common.{rules, ◌≡◌, ◌∙◌, ◌<◌, ℕ, All, Contains, IsPermutation, IsSortedByKey, length, ap, sym, subst}
 use Rattle.std.proofs.lemmas.Fn.{always_returns_same}
 use Rattle.std.proofs.lemmas.Result.{IfOk-weaker}
-use Rattle.ld_class.specs.declared.class_name.ClassName.{ClassName}
+use Rattle.ld_class.specs.declared.names.ClassName.{ClassName}
 use Rattle.ld_class.specs.Names.{plain_class}
 use Rattle.ld_union.specs.Findings.{IsBefore}
 use Rattle.ld_union.specs.Inner.ByName.{class_at, class_name}

@@ -7,7 +7,7 @@ use Rattle.ld_batch.specs.Inner.Names.{AreThere}
 use Rattle.ld_rules.specs.Usage.{Use, bit_of, same_use}
 use Rattle.ld_union.specs.Inner.Union.{AreUsed, earlier_of}
 use Rattle.ld_union.specs.Usage.{bits_of}
-use Rattle.ld_union.proofs.NewsLemmas.{tells-same}
+use Rattle.ld_union.proofs.DeltaLemmas.{tells-same}
 use Rattle.ld_union.proofs.SeenLemmas.{all_noted, none_noted, one_noted, same_use-true, uses_once}
 use Rattle.ld_union.proofs.usage.add_usage.Goals as goal
 

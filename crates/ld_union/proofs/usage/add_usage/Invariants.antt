@@ -3,7 +3,7 @@ use Rattle.ld_class.specs.Names.{AreDistinct}
 use Rattle.ld_rules.specs.declared.outcome.Witness.{Witness}
 use Rattle.ld_rules.specs.Usage.{Use, same_use}
 use Rattle.ld_batch.specs.Batch.{named_use, witness_of}
-use Rattle.ld_union.specs.Inner.News.{TellsBits}
+use Rattle.ld_union.specs.Inner.Delta.{TellsBits}
 use Rattle.ld_union.specs.Inner.Union.{AreUsed, with_first}
 use Rattle.ld_union.specs.Usage.{bits_of}
 use Rattle.ld_union.proofs.usage.add_usage.Given as goal

@@ -3,7 +3,7 @@ use Rattle.std.proofs.lemmas.Bool.{OnFalse_at, OnTrue_at}
 use Rattle.ld_class.specs.Names.{no_class}
 use Rattle.ld_rules.specs.Usage.{bit_of}
 use Rattle.ld_union.specs.Inner.Union.{of_class}
-use Rattle.ld_union.proofs.NewsLemmas.{tells-known, tells-new}
+use Rattle.ld_union.proofs.DeltaLemmas.{tells-known, tells-new}
 use Rattle.ld_union.proofs.UsageLemmas.{length_used, row_at, used-seen}
 use Rattle.ld_union.proofs.usage.note_use.Goals as goal
 

@@ -3,7 +3,7 @@ use Rattle.std.proofs.Common.{◌≡◌, ◌∙◌, None, map, refl, ap, subst}
 use Rattle.std.proofs.lemmas.List.Sorted.{All-permutation, IsPermutation-trans}
 use Rattle.ld_trace.specs.Sources.{sources, stream_fault}
 use Rattle.ld_check.specs.declared.checked.CheckFault.TheVariants.{Stream}
-use Rattle.ld_check.specs.OfReport.OfBook.declared.totals.Totals.{Totals}
+use Rattle.ld_check.specs.OfReport.OfBook.declared.listing.Totals.{Totals}
 use Rattle.ld_check.proofs.OfReport.OfBook.PermutedLemmas.{totals-permuted}
 use Rattle.ld_origin.specs.Origin.{plain_home}
 use Rattle.ld_reduce.specs.Reduction.{IsReductionOf}

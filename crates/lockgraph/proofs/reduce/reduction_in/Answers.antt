@@ -1,7 +1,7 @@
 -- As many traces are refused, in whichever order.
 use Rattle.std.proofs.Common.{◌∙◌, ap, map, subst, sym}
 use Rattle.ld_check.proofs.OfReport.OfBook.PermutedLemmas.{totals-permuted}
-use Rattle.ld_check.specs.OfReport.OfBook.declared.totals.Totals.{Totals}
+use Rattle.ld_check.specs.OfReport.OfBook.declared.listing.Totals.{Totals}
 use Rattle.ld_trace.specs.Sources.{plain}
 use Rattle.ld_origin.specs.Origin.{plain_home}
 use Rattle.ld_reduce.specs.Reduction.{IsReductionOf}

@@ -7,8 +7,8 @@ use Rattle.ld_union.proofs.BitLemmas.{bits_from_used}
 use Rattle.ld_union.proofs.NumberLemmas.{exact_from_found}
 use Rattle.ld_book.proofs.book.Book.findings.Goals as goal
 
-pub returns : goal.returns
-returns c =
+pub returns-clause-rows : goal.returns-clause-rows
+returns-clause-rows c =
     let union = c.self.inside.union in
     let shows = c.self.invariant.shows in
     let found = c.self.inside.found in
@@ -18,4 +18,4 @@ returns c =
     IfOk-weaker c.findings_of.result _ (λ findings. AreFindings c.args.self.now (plain_findings findings))
     (λ findings are. subst (λ all. AreFindings all (plain_findings findings)) c.self.view_is
     (are sources shows (of_each_from_exact sources union.classes found exact)))
-    c.findings_of.ensures
+    c.findings_of.ensures.rows

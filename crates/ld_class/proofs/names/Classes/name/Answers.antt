@@ -1,6 +1,6 @@
 use Rattle.std.proofs.Common.{◌∙◌, [], get_or, ap, subst, sym, slice_index_or}
 use Rattle.std.proofs.Math.ListN.{get_or-map}
-use Rattle.ld_class.specs.declared.class_name.ClassName.{ClassName}
+use Rattle.ld_class.specs.declared.names.ClassName.{ClassName}
 use Rattle.ld_class.specs.Names.{AreDistinct, no_class, plain_class}
 use Rattle.ld_class.proofs.NameLemmas.{place_of-at}
 use Rattle.ld_class.proofs.names.Classes.name.Goals as goal

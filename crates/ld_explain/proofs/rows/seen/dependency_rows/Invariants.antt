@@ -1,4 +1,4 @@
-use Rattle.std.specs.Prelude.{All, List, take}
+use Rattle.std.specs.Prelude.{All, List}
 use Rattle.ld_trace.specs.Sources.{PlainSource}
 use Rattle.ld_explain.specs.Rows.{IsFirstRow}
 use Rattle.ld_explain.specs.Steps.{IsAtFirst}

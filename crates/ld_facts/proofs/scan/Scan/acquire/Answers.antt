@@ -1,7 +1,7 @@
 use Rattle.std.proofs.Common.{◌≡◌, Some, Err, ap, sym, ◌∙◌}
 use Rattle.std.proofs.lemmas.Result.{err_from_is_err_and}
 use Rattle.ld_trace.specs.Events.{plain_lock}
-use Rattle.ld_facts.specs.declared.stop.Stop.TheVariants.{Fault}
+use Rattle.ld_facts.specs.declared.scan.Stop.TheVariants.{Fault}
 use Rattle.ld_facts.proofs.TaskLemmas.{acquisition_too_many_tasks}
 use Rattle.std.proofs.Common.{◌<◌, ◌≤◌, None, List, ℕ, length, get_or, subst, arith, ◌++◌, ◌∷◌, []}
 use Rattle.std.proofs.lemmas.List.{length-map}

@@ -3,7 +3,7 @@ use Rattle.std.proofs.lemmas.Result.{err_from_is_err_and}
 use Rattle.ld_trace.specs.declared.event.State.TheVariants.{Hard, Soft}
 use Rattle.ld_trace.specs.Events.PlainEvent.{Begin}
 use Rattle.ld_rules.specs.declared.fault.TraceFault.TheVariants.{LateBegin}
-use Rattle.ld_facts.specs.declared.stop.Stop.TheVariants.{Fault}
+use Rattle.ld_facts.specs.declared.scan.Stop.TheVariants.{Fault}
 use Rattle.ld_tables.specs.Inner.Interrupts.{IsSet, fresh}
 use Rattle.ld_facts.specs.Inner.Scan.{HasTask, IsAt}
 use Rattle.ld_facts.proofs.InterruptLemmas.{begun_late, begun_task-at}

@@ -3,13 +3,13 @@ use Rattle.std.proofs.lemmas.Result.{on_ok_weaker}
 use Rattle.ld_trace.specs.Events.{PlainEvent, plain_event, plain_lock}
 use Rattle.ld_trace.specs.declared.event.Lock.{Lock}
 use Rattle.ld_rules.specs.Outcome.{event_fault, events}
-use Rattle.ld_facts.specs.declared.taking.Taking.{Taking}
+use Rattle.ld_facts.specs.declared.acquire_kind.AcquireKind.{AcquireKind}
 use Rattle.ld_facts.specs.Inner.Scan.{IsStep, acquisition}
 use Rattle.ld_facts.proofs.scan.Scan.step.Goals.{in-Acquire, in-Try, in-Nested}
 use Rattle.ld_facts.proofs.scan.Scan.step.Goals as goal
 
 -- the event of what is taken: a task, a lock, and how it is taken
-abbrev event_taken : Bor (List ℕ) × Lock × Taking → PlainEvent
+abbrev event_taken : Bor (List ℕ) × Lock × AcquireKind → PlainEvent
 event_taken taken = acquisition taken.2 taken.0.now (plain_lock taken.1)
 
 pub returns-clause-fault : goal.returns-clause-fault

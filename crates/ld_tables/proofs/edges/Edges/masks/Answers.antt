@@ -2,8 +2,8 @@ use Rattle.std.proofs.Common.{rules, ◌≡◌, ◌<◌, ◌/◌, List, ℕ, [],
 use Rattle.std.proofs.lemmas.List.{get_or_default, map_more}
 use Rattle.std.specs.Prelude.{IfSome}
 use Rattle.ld_tables.specs.declared.held.Held.{Held}
-use Rattle.ld_tables.specs.declared.words.Mask.{Mask}
-use Rattle.ld_tables.specs.declared.words.Word.{Word}
+use Rattle.ld_tables.specs.declared.masks.Mask.{Mask}
+use Rattle.ld_tables.specs.declared.masks.Word.{Word}
 use Rattle.ld_tables.specs.Inner.Edges.{AreMasks, AreMore, word_at}
 use Rattle.ld_tables.proofs.MaskLemmas.{AreMasks-none, AreMasks-push}
 use Rattle.ld_tables.proofs.WordLemmas.{AreMore-further, AreMore-same}

@@ -5,5 +5,5 @@ use Rattle.ld_tables.proofs.edges.Edges.number.Goals as goal
 
 pub returns-then-is_at-clause-number : goal.returns-then-is_at-clause-number
 returns-then-is_at-clause-number c =
-    subst (λ (k : KeptEdges). word_at k.words c.of-guess.result ≡ c.args.word) c.self.view_is
-    (get_or_default c.self.inside.words.keys c.of-guess.result no_word c.args.word c.if-is_at.ensures.0 ∙ c.if-is_at.ensures.1)
+    subst (λ (k : KeptEdges). word_at k.words c.of-hint.result ≡ c.args.word) c.self.view_is
+    (get_or_default c.self.inside.words.keys c.of-hint.result no_word c.args.word c.if-is_at.ensures.0 ∙ c.if-is_at.ensures.1)

@@ -4,7 +4,7 @@ use Rattle.std.proofs.lemmas.List.{append-nil, get_or_default}
 use Rattle.std.specs.Prelude.{bit_and, bit_or}
 use Rattle.ld_class.specs.Blocks.{bits_on, classes_in}
 use Rattle.ld_class.proofs.BlockLemmas.{bits_on-zero}
-use Rattle.ld_tables.specs.declared.words.Telling.{Telling}
+use Rattle.ld_tables.specs.declared.masks.NewEdges.{NewEdges}
 use Rattle.ld_tables.specs.Inner.Edges.{AreTold, KeptEdges, edge_to, edges_of, no_word, with_edge_fact, word_at}
 use Rattle.ld_tables.proofs.TellingLemmas.{edges-mask, tell-mask, told-mask}
 use Rattle.ld_tables.proofs.edges.Edges.tell_mask.Goals as goal

@@ -1,9 +1,9 @@
 use Rattle.std.proofs.Common.{◌≡◌, ℕ, List, Result, Ok, Err, IfSome, OnOk, ap, fold, map, refl, subst, sym, take, ◌∙◌}
 use Rattle.ld_tables.specs.declared.held.Held.{Held}
 use Rattle.ld_tables.specs.declared.edges.EdgeFact.{EdgeFact}
-use Rattle.ld_tables.specs.declared.words.Mask.{Mask}
-use Rattle.ld_tables.specs.declared.words.Telling.{Telling}
-use Rattle.ld_tables.specs.declared.words.Word.{Word}
+use Rattle.ld_tables.specs.declared.masks.Mask.{Mask}
+use Rattle.ld_tables.specs.declared.masks.NewEdges.{NewEdges}
+use Rattle.ld_tables.specs.declared.masks.Word.{Word}
 use Rattle.ld_tables.specs.Inner.Edges.{AreMasks, AreToldTo, classes_of, edge_to, edges_of, with_edge_fact}
 use Rattle.ld_tables.proofs.ToldLemmas.{told-to}
 use Rattle.ld_tables.proofs.edges.Edges.tell_to.Goals as goal
@@ -22,7 +22,7 @@ returns-in-Some-clause-told c =
 
 pub returns-in_ok-masks-in-None-clause-told : goal.returns-in_ok-masks-in-None-clause-told
 returns-in_ok-masks-in-None-clause-told c =
-    subst (λ (ts : List Telling). OnOk c.tell-in-None.result (AreToldTo (map (λ (h : Held). h.class) c.args.stack.now) c.args.class c.args.line (edges_of ts) (edges_of c.tell-in-None.new.self.tellings))) c.masks.ensures.tellings
+    subst (λ (ts : List NewEdges). OnOk c.tell-in-None.result (AreToldTo (map (λ (h : Held). h.class) c.args.stack.now) c.args.class c.args.line (edges_of ts) (edges_of c.tell-in-None.new.self.tellings))) c.masks.ensures.tellings
     (by_masks c.tell-in-None.result c.masks.new.self.words c.deref.result.now (map (λ (h : Held). h.class) c.args.stack.now) c.args.class c.args.line (edges_of c.masks.new.self.tellings) (edges_of c.tell-in-None.new.self.tellings)
     (subst (AreMasks c.masks.new.self.words c.args.class (map (λ (h : Held). h.class) c.args.stack.now)) (sym c.deref.ensures.value) c.in_ok-masks-in-None.ensures.masks)
     c.tell-in-None.ensures.told)

@@ -2,7 +2,7 @@ use Rattle.std.proofs.Common.{◌≡◌, ◌<◌, ◌∷◌, [], ◌++◌, List,
 use Rattle.std.proofs.lemmas.Bool.{eqb-true}
 use Rattle.ld_tables.specs.declared.edges.EdgeFact.{EdgeFact}
 use Rattle.ld_tables.specs.declared.held.Held.{Held}
-use Rattle.ld_tables.specs.declared.locks.Before.{Before}
+use Rattle.ld_tables.specs.declared.locks.LocksStart.{LocksStart}
 use Rattle.ld_tables.specs.Inner.Stacks.{PlainStack, empty_stack, inner}
 use Rattle.ld_tables.specs.Inner.Chains.{KeptChains, chains_of}
 use Rattle.ld_tables.specs.Inner.Edges.{AreToldTo, KeptEdges, edge_to, edges_of, with_edge_fact}
@@ -11,7 +11,7 @@ use Rattle.ld_tables.proofs.BeforeLemmas.{before_extended, before_more, before_s
 use Rattle.ld_tables.proofs.LockLemmas.{classes_shown, known_told, numbered, numbered_as, start_within, tied_extended, tied_more, tied_told, told_now, told_shown}
 use Rattle.ld_tables.proofs.MaskedLemmas.{known_masks, masked_more}
 use Rattle.ld_tables.proofs.ToldLemmas.{keeps-first, tells-exact, told-to}
-use Rattle.ld_tables.specs.declared.words.Telling.{Telling}
+use Rattle.ld_tables.specs.declared.masks.NewEdges.{NewEdges}
 use Rattle.ld_tables.proofs.RoomLemmas.{some_task}
 use Rattle.ld_tables.proofs.locks.Locks.tell_linked.Goals as goal
 
@@ -43,7 +43,7 @@ module _ (linked learned : KeptChains) (same : learned.links ≡ linked.links) w
   chain_learned chain classes is = ap (λ links. get_or (chains_of links) chain []) same ∙ is
 
 -- once the chain has its number
-module _ (stacks : List PlainStack) (chains_before after : KeptChains) (told : List ℕ) (old now : KeptEdges) (before : Before) (kept : IsKept stacks chains_before told old before)
+module _ (stacks : List PlainStack) (chains_before after : KeptChains) (told : List ℕ) (old now : KeptEdges) (before : LocksStart) (kept : IsKept stacks chains_before told old before)
     (more : IsExtended (chains_of chains_before.links) (chains_of after.links)) (same : now.tellings ≡ old.tellings) where
   tied_here : AreTied stacks (chains_of after.links) told (edges_of now.tellings)
   tied_here = subst (λ ts. AreTied stacks (chains_of after.links) told (edges_of ts)) (sym same)
@@ -54,7 +54,7 @@ module _ (stacks : List PlainStack) (chains_before after : KeptChains) (told : L
       (before_extended before (chains_of chains_before.links) told old.tellings kept.start (chains_of after.links) more)
 
   -- once more is told
-  module _ (new : List Telling) (first : take (length now.tellings) new ≡ now.tellings) where
+  module _ (new : List NewEdges) (first : take (length now.tellings) new ≡ now.tellings) where
     tied_then : AreTied stacks (chains_of after.links) told (edges_of new)
     tied_then = tied_more stacks (chains_of after.links) told (edges_of now.tellings) tied_here (edges_of new) (keeps-first now.tellings new first)
 

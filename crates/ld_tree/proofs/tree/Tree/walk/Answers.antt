@@ -36,7 +36,7 @@ loop-place-init c =
     let all : length c.self.inside.found.items ≡ length c.args.self.now.found = ap length found in
     let place : nth c.args.self.now.from c.in-Some.number ≡ c.index-place.result.now =
     ap (λ ns. nth ns c.in-Some.number) (sym from) ∙ get_or_default c.self.inside.from.items c.in-Some.number 0 c.index-place.result.now (omega (arith, at, as_many)) ∙ sym c.index-place.ensures in
-    let walk : c.push.new.self.items ≡ c.args.end ∷ [] = c.in_ok-push.ensures.items ∙ ap (λ ns. ns ++ c.args.end ∷ []) c.new-walk.ensures.items in
+    let walk : c.push.new.self.items ≡ c.args.end ∷ [] = c.in_ok-push.ensures.items ∙ ap (λ ns. ns ++ c.args.end ∷ []) c.clear.ensures.items in
     rw walk (subst (λ p. IsClimb c.args.leading.now c.args.start c.args.self.now c.in-Some.number p (c.args.end ∷ [])) place
     (subst (λ y. IsClimb c.args.leading.now c.args.start c.args.self.now c.in-Some.number (nth c.args.self.now.from c.in-Some.number) (y ∷ [])) n.1
     (climb_begin c.args.leading.now c.args.start c.args.self.now c.requires.tree c.in-Some.number at)))

@@ -2,7 +2,7 @@ use Rattle.std.proofs.Common.{◌≡◌, Option, None, ℕ, refl}
 use Rattle.ld_trace.specs.declared.event.State.{State}
 use Rattle.ld_trace.specs.declared.event.State.TheVariants.{Hard, Soft}
 use Rattle.ld_union.specs.declared.alarms.Forbidden.{Forbidden}
-use Rattle.ld_union.specs.declared.states.PerState.{PerState}
+use Rattle.ld_union.specs.declared.reaches.PerState.{PerState}
 use Rattle.ld_union.specs.Inner.States.{of_state}
 use Rattle.ld_union.proofs.FoundLemmas.{nothing_found}
 use Rattle.ld_union.proofs.alarms.Found.new.Goals as goal

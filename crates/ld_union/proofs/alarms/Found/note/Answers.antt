@@ -4,7 +4,7 @@ use Rattle.ld_graph.specs.declared.Edge.{Edge}
 use Rattle.ld_trace.specs.declared.event.State.{State}
 use Rattle.ld_trace.specs.declared.event.State.TheVariants.{Hard, Soft}
 use Rattle.ld_union.specs.declared.usage.UsageRow.{UsageRow}
-use Rattle.ld_union.specs.Inner.News.{Tells, TellsBits}
+use Rattle.ld_union.specs.Inner.Delta.{Tells, TellsBits}
 use Rattle.ld_union.specs.Inner.States.{of_state}
 use Rattle.ld_union.specs.Inner.Union.{PlainUnion, edges_of}
 use Rattle.ld_union.specs.Usage.{bits_of}
@@ -32,12 +32,12 @@ returns c = λ old tells are. record {
     usage_again : c.usage-2.result.now ≡ c.args.union.now.usage
     usage_again = c.usage-2.ensures.same
 
-    tells_of : (before : List Usage) (rows : List UsageRow) → rows ≡ c.args.union.now.usage → TellsBits before (bits_of c.args.union.now.usage) c.args.news.now.bits
+    tells_of : (before : List Usage) (rows : List UsageRow) → rows ≡ c.args.union.now.usage → TellsBits before (bits_of c.args.union.now.usage) c.args.delta.now.bits
         → TellsBits before (bits_of rows) c.bits-bits.result.now
     tells_of before rows same tells = subst (λ rs. TellsBits before (bits_of rs) c.bits-bits.result.now) (sym same)
         (subst (TellsBits before (bits_of c.args.union.now.usage)) (sym c.bits-bits.ensures) tells)
 
-    conflict : (before : List Usage) → TellsBits before (bits_of c.args.union.now.usage) c.args.news.now.bits
+    conflict : (before : List Usage) → TellsBits before (bits_of c.args.union.now.usage) c.args.delta.now.bits
         → ((state : State) → IsExact (IsConflictAt before state) (of_state c.args.self.now.conflict state)) → (state : State)
         → IsExact (IsConflictAt (bits_of c.args.union.now.usage) state) (of_state (record { hard = c.conflict_then.result; soft = c.conflict_then-2.result }) state)
     conflict before tells are Hard =
@@ -46,7 +46,7 @@ returns c = λ old tells are. record {
         subst (λ rows. IsExact (IsConflictAt (bits_of rows) Soft) c.conflict_then-2.result) usage_again
         (c.conflict_then-2.ensures before (tells_of before c.usage-2.result.now usage_again tells) (are Soft))
 
-    forbidden : (old : PlainUnion) → Tells old c.args.union.now c.args.news.now
+    forbidden : (old : PlainUnion) → Tells old c.args.union.now c.args.delta.now
         → ((state : State) → IsExact (λ (w : Forbidden). IsForbiddenAt (edges_of old.dependencies) (bits_of old.usage) state w.from w.to) (of_state c.args.self.now.forbidden state))
         → (state : State) → IsExact (λ (w : Forbidden). IsForbiddenAt all (bits_of c.args.union.now.usage) state w.from w.to)
         (of_state (record { hard = c.forbidden_then.result; soft = c.forbidden_then-2.result }) state)

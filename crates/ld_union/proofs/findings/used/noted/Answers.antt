@@ -22,7 +22,7 @@ returns-in_err-witness c sources shows =
     ap (λ rows. get_or rows c.args.class d) c.usage.ensures.same ∙ row_at union.classes union.usage (use_witness sources) shows.used c.args.class d c.requires.class in
     let none : c.from_residual.result ≡ None = search rules in
     subst (λ row. MatchOption row (¬ HasBit sources class (bit_of c.args.bit)) (λ n. IsNoted sources class (bit_of c.args.bit) (plain_class n.name) n.marks n.at)) (sym none)
-    (no_witness (first (bit_of c.args.bit)) (c.in_err-witness.ensures first (usage _)))
+    (no_witness (first (bit_of c.args.bit)) (c.in_err-witness.ensures.first first (usage _)))
 
 pub returns : goal.returns
 returns c sources shows =
@@ -33,5 +33,5 @@ returns c sources shows =
     record {
       same = c.name.ensures.name ∙ ap (λ names. class_name names c.args.class) c.classes.ensures.same;
       shown = c.marks.ensures ∙ ap (λ (row : UsageRow). marks_of row.bits) (usage _);
-      first = sym (c.in_ok-witness.ensures first (usage _));
+      first = sym (c.in_ok-witness.ensures.first first (usage _));
     }

@@ -8,17 +8,17 @@ use Rattle.ld_trace.specs.declared.event.State.{State}
 use Rattle.ld_trace.specs.declared.event.State.TheVariants.{Hard, Soft}
 use Rattle.ld_rules.specs.Union.{union_classes, use_witness}
 use Rattle.ld_union.specs.declared.dependencies.Witnessed.{Witnessed}
-use Rattle.ld_union.specs.declared.news.NewBit.{NewBit}
+use Rattle.ld_union.specs.declared.delta.NewBit.{NewBit}
 use Rattle.ld_union.specs.declared.usage.UsageRow.{UsageRow}
 use Rattle.ld_batch.specs.Batch.{first_since}
 use Rattle.ld_batch.specs.Inner.Names.{AreThere, IsLonger, with_names}
 use Rattle.ld_batch.proofs.SinceLemmas.{front-since, least-since}
-use Rattle.ld_union.specs.Inner.News.{Tells, TellsBits}
+use Rattle.ld_union.specs.Inner.Delta.{Tells, TellsBits}
 use Rattle.ld_union.specs.Inner.Reached.{AreFurther, ExpandsOnce, IsReachOf, IsSeeded, expanded_by, marks_by, reached_by}
 use Rattle.ld_union.specs.Inner.States.{of_state}
 use Rattle.ld_union.specs.Inner.Union.{Adds, AreBetween, AreUsed, AreWitnessed, IsCycleEdge, PlainUnion, edges_of, with_first}
 use Rattle.ld_union.specs.Usage.{bits_of, row_of}
-use Rattle.ld_union.proofs.NewsLemmas.{tells-longer, tells-then, told_within}
+use Rattle.ld_union.proofs.DeltaLemmas.{tells-longer, tells-then, told_within}
 use Rattle.ld_union.proofs.ReachedLemmas.{expanded_at, further-spares, further-then, marks_at, reach-seeded, reached_at, source_some, union-kept}
 use Rattle.ld_union.proofs.SourceLemmas.{adds-shown}
 use Rattle.ld_union.proofs.UnionLemmas.{numbered-longer, witnessed-longer}
@@ -113,9 +113,9 @@ module _ (c : goal.After-seed_all) where
   once : (state : State) → ExpandsOnce (length classes) (of_state c.seed_all.new.self.reach state)
   once state = subst (λ n. ExpandsOnce n (of_state c.seed_all.new.self.reach state)) (ap (λ (g : PlainGraph). g.classes) c.seed_all.ensures.graph ∙ c.add.ensures.noted.classes ∙ sym entered) (c.seed_all.new.self.counted state)
 
-  counted : (state : State) → of_state c.counts-news-inside.result state ≡ length (of_state (reached_by c.self.inside.dependencies.reach) state)
-  counted Hard = c.counts-news-inside.ensures.hard
-  counted Soft = c.counts-news-inside.ensures.soft
+  counted : (state : State) → of_state c.counts-delta-inside.result state ≡ length (of_state (reached_by c.self.inside.dependencies.reach) state)
+  counted Hard = c.counts-delta-inside.ensures.hard
+  counted Soft = c.counts-delta-inside.ensures.soft
 
   -- each reach is exact for the seeds that it had and for those that came
   seeded : (state : State) → IsReachOf (length classes) (edges_of c.add.new.self.rows.items) (bits_of (with_items c.resize.new.self c.add_usage.new.rows).items) state
@@ -152,7 +152,7 @@ returns-clause-told c =
     let union = c.self.inside in
     let reach = union.dependencies.reach in
     let more = c.seed_all.new.self.reach in
-    subst (λ union. Tells union (after c) (record { bits = c.add_usage.new.bits.items; first_reached = c.counts-news-inside.result })) c.self.view_is (record {
+    subst (λ union. Tells union (after c) (record { bits = c.add_usage.new.bits.items; first_reached = c.counts-delta-inside.result })) c.self.view_is (record {
       front =
           (λ i. take (ap length (sym (rows c)) i) (edges_of (sym (same_rows c) i)))
           ∙ c.add.ensures.noted.front
@@ -165,7 +165,7 @@ returns-clause-told c =
           ∙ sym (reached_at reach state);
       from = λ state class there.
           source_some (length union.classes) (edges_of (old_rows c)) (bits_of (old_usage c)) state (of_state reach state) (c.self.invariant.reached state) class
-          (c.counts-news-inside.ensures.sources state class (subst (λ all. Contains all class) (reached_at reach state) there));
+          (c.counts-delta-inside.ensures.sources state class (subst (λ all. Contains all class) (reached_at reach state) there));
       stays = λ state class on.
           ap (λ marks. get_or marks class false) (marks_at more state)
           ∙ (further c state).stays class (sym (ap (λ marks. get_or marks class false) (marks_at reach state)) ∙ on);

@@ -1,5 +1,5 @@
 -- The row's classes are those of the step, and its line is that at which the step was first seen.
-use Rattle.std.proofs.Common.{◌≡◌, ℕ, List, Some, ap, sym, ◌∙◌}
+use Rattle.std.proofs.Common.{◌≡◌, List, Some, ap, sym, ◌∙◌}
 use Rattle.ld_trace.specs.Sources.{PlainSource}
 use Rattle.ld_class.specs.Names.{PlainClass}
 use Rattle.ld_rules.specs.declared.outcome.Witness.{Witness}
