@@ -14,7 +14,7 @@ const CLASSES: u32 = 1024;
 /// How many blocks of 64 classes each acquired class has.
 const BLOCKS: usize = 16;
 
-/// As many blocks as are there, none is added. Blocks are added by doubling, so up to twice as many are kept.
+/// A dependency whose block has this index, or a greater one, is not kept.
 const MOST_BLOCKS: usize = CLASSES as usize * BLOCKS;
 
 /// The dependencies of 64 classes with neighbouring numbers on one that is acquired under them.
