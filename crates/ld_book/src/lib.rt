@@ -10,8 +10,8 @@ pub use ld_class::{ClassName, Classes};
 pub use ld_facts::{Batch, Series, Witness};
 pub use ld_graph::{Edge, Graph};
 pub use ld_union::{
-    Alarms, ConflictRow, CycleRow, Findings, ForbiddenRow, ForbiddenRows, Names, Rows, UsageRow,
-    Walk, Witnessed,
+    Alarms, ConflictRow, CycleRow, Findings, ForbiddenRow, ForbiddenRows, Rows, UsageRow, Walk,
+    WalkNames, Witnessed,
 };
 pub use listing::Totals;
 pub use traces::Traces;

@@ -8,8 +8,8 @@ use Rattle.ld_io.specs.declared.transfer.ReadFault.{ReadFault}
 use Rattle.ld_io.specs.declared.transfer.ReadFault.TheVariants as read_fault
 use Rattle.ld_check.specs.declared.checked.CheckFault.{CheckFault}
 use Rattle.ld_check.specs.declared.checked.CheckFault.TheVariants as check_fault
-use Rattle.ld_check.specs.declared.runs.RunFault.{RunFault}
-use Rattle.ld_check.specs.declared.runs.RunFault.TheVariants.{Read, Stream, Memory, Uneven}
+use Rattle.ld_check.specs.declared.running.RunFault.{RunFault}
+use Rattle.ld_check.specs.declared.running.RunFault.TheVariants.{Read, Stream, Memory, Uneven}
 
 -- bytes without a fault were read whole, and of their sources this holds
 pub record Answers (left left' : Option (List ℕ)) (has_ended : Bool)

@@ -5,9 +5,8 @@
 mod checked;
 mod reading;
 mod running;
-mod runs;
 
 pub use checked::{CheckFault, Checked, MOST_WORKERS, Report, check, report_of};
 pub use ld_report::{Book, Verdict, report as report_in, verdict_of};
 pub use ld_work::NoGate;
-pub use runs::{RunFault, run};
+pub use running::{RunFault, run};

@@ -7,7 +7,8 @@ ghost use Rattle.ld_explain.specs.Rows.{AreViolations, cycle_kind, cycle_said, f
 ghost use Rattle.ld_explain.specs.Steps.{AreFirst, IsAtFirst, IsEvery, violation_said};
 
 use ld_overview::{
-    Book, ClassName, ConflictRow, CycleRow, Findings, ForbiddenRow, ForbiddenRows, Names, Witness,
+    Book, ClassName, ConflictRow, CycleRow, Findings, ForbiddenRow, ForbiddenRows, WalkNames,
+    Witness,
 };
 use ld_rows::Kind;
 use ld_trace::{State, next_line, text};
@@ -234,7 +235,7 @@ fn add_step<'a>(
 fn add_steps<'a>(
     book: &Book<'a>,
     steps: &mut Vec<Step<'a>>,
-    walk: &Names<'_, 'a>,
+    walk: &WalkNames<'_, 'a>,
 ) -> Result<(), AllocError>
     requires { All (IsAtFirst book.now) steps.old.items }
     ensures { OnOk result (All (IsAtFirst book.now) steps.new.items) }

@@ -7,8 +7,8 @@ mod overview;
 mod readers;
 
 pub use ld_book::{
-    Book, ClassName, ConflictRow, CycleRow, Edge, Findings, ForbiddenRow, ForbiddenRows, Names,
-    Totals, Traces, UsageRow, Witness,
+    Book, ClassName, ConflictRow, CycleRow, Edge, Findings, ForbiddenRow, ForbiddenRows, Totals,
+    Traces, UsageRow, WalkNames, Witness,
 };
 pub use names::write_class;
 pub use overview::{ClassRow, DependencyRow, Overview, class_rows, dependency_rows};

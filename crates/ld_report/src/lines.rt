@@ -13,7 +13,7 @@ ghost use Rattle.ld_report.specs.Report.{summary_line, via};
 
 use crate::labels::label;
 use itoa::Buffer;
-use ld_book::{ClassName, ConflictRow, CycleRow, ForbiddenRow, Names, Totals, Traces};
+use ld_book::{ClassName, ConflictRow, CycleRow, ForbiddenRow, Totals, Traces, WalkNames};
 use ld_rules::{TraceFault, Witness};
 use ld_trace::State;
 use std::alloc::AllocError;
@@ -288,7 +288,7 @@ fn write_class(
 }
 
 /// Writes the names of a walk, and ends the line.
-fn write_walk(text: &mut Vec<u8>, walk: &Names<'_, '_>) -> Result<(), AllocError>
+fn write_walk(text: &mut Vec<u8>, walk: &WalkNames<'_, '_>) -> Result<(), AllocError>
     ensures { OnOk result (text.new.items ≡ text.old.items ++ via walk.now) }
 {
     write_bytes(text, " via ", b"")?;
@@ -301,7 +301,7 @@ fn write_walk(text: &mut Vec<u8>, walk: &Names<'_, '_>) -> Result<(), AllocError
 }
 
 /// Writes the names of a walk behind the first, each behind an arrow.
-fn write_steps(text: &mut Vec<u8>, walk: &Names<'_, '_>) -> Result<(), AllocError>
+fn write_steps(text: &mut Vec<u8>, walk: &WalkNames<'_, '_>) -> Result<(), AllocError>
     ensures { OnOk result (text.new.items ≡ text.old.items ++ steps (drop 1 walk.now)) }
 {
     for place in 1..walk.len() {

@@ -3,7 +3,7 @@ use Rattle.std.proofs.Common.{◌≡◌, ◌≤◌, ◌+◌, ◌∙◌, ◌++◌
 use Rattle.std.proofs.lemmas.List.{drop_at, map-append, take_all}
 use Rattle.std.proofs.lemmas.List.Elements.{All-head, All-tail, All-weaker}
 use Rattle.ld_graph.proofs.RunLemmas.{part-append}
-use Rattle.ld_union.specs.declared.walk_list.Part.{Part}
+use Rattle.ld_union.specs.declared.findings.forbidden_rows.Part.{Part}
 use Rattle.ld_union.specs.Inner.Parts.{IsPartOf, part_of}
 
 -- parts stay within more numbers

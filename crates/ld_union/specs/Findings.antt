@@ -16,7 +16,7 @@ use Rattle.ld_rules.specs.Usage.Bit.{In, On}
 use Rattle.ld_union.specs.declared.findings.conflicts.ConflictRow.{ConflictRow}
 use Rattle.ld_union.specs.declared.findings.cycles.CycleRow.{CycleRow}
 use Rattle.ld_union.specs.declared.findings.Findings.{Findings}
-use Rattle.ld_union.specs.declared.findings.listed.ForbiddenRow.{ForbiddenRow}
+use Rattle.ld_union.specs.declared.findings.forbidden_rows.ForbiddenRow.{ForbiddenRow}
 use Rattle.ld_union.specs.declared.reaches.PerState.{PerState}
 use Rattle.ld_union.specs.Alarms.{state_place}
 pub use Rattle.ld_union.specs.Forbidden.{PlainForbiddenRow}

@@ -9,7 +9,7 @@ ghost use Rattle.ld_union.specs.Inner.Union.{Shows};
 mod conflicts;
 mod cycles;
 mod forbidden;
-mod listed;
+mod forbidden_rows;
 mod used;
 mod walks;
 
@@ -23,8 +23,8 @@ use crate::reaches::PerState;
 use crate::union::Union;
 pub use conflicts::ConflictRow;
 pub use cycles::CycleRow;
+pub use forbidden_rows::{ForbiddenRow, ForbiddenRows};
 use ld_trace::State;
-pub use listed::{ForbiddenRow, ForbiddenRows};
 use std::alloc::{AllocError, Global};
 use std::marker::Model;
 

@@ -11,7 +11,6 @@ mod reaches;
 mod union;
 mod usage;
 mod walk;
-mod walk_list;
 
 pub use alarms::{Alarms, Forbidden, Found};
 pub use delta::{Delta, NewBit};
@@ -22,4 +21,4 @@ pub use findings::{
 pub use reaches::PerState;
 pub use union::Union;
 pub use usage::UsageRow;
-pub use walk::{Names, Walk};
+pub use walk::{Walk, WalkNames};

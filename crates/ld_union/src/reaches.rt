@@ -13,6 +13,27 @@ use ld_graph::{Edge, Graph, Reach, Reader};
 use ld_trace::State;
 use std::alloc::{AllocError, Global};
 
+/// One for each of the two states.
+#[derive(Clone, Copy, Debug, Drop, PartialEq, Eq)]
+pub struct PerState<T> {
+    /// That of hard.
+    pub hard: T,
+    /// That of soft.
+    pub soft: T,
+}
+
+impl<T: Copy> PerState<T> {
+    /// That of the state.
+    pub fn get(&self, state: State) -> T
+        ensures { result ≡ of_state self.now state }
+    {
+        match state {
+            State::Hard => self.hard,
+            State::Soft => self.soft,
+        }
+    }
+}
+
 impl PerState<Reach> {
     /// Those of no class.
     pub(crate) fn new(alloc: Global) -> PerState<Reach>
@@ -121,27 +142,6 @@ impl PerState<Reach> {
         PerState {
             hard: self.hard.reached().len(),
             soft: self.soft.reached().len(),
-        }
-    }
-}
-
-/// One for each of the two states.
-#[derive(Clone, Copy, Debug, Drop, PartialEq, Eq)]
-pub struct PerState<T> {
-    /// That of hard.
-    pub hard: T,
-    /// That of soft.
-    pub soft: T,
-}
-
-impl<T: Copy> PerState<T> {
-    /// That of the state.
-    pub fn get(&self, state: State) -> T
-        ensures { result ≡ of_state self.now state }
-    {
-        match state {
-            State::Hard => self.hard,
-            State::Soft => self.soft,
         }
     }
 }

@@ -34,21 +34,21 @@ impl<'u, 'a> Walk<'u, 'a> {
     }
 
     /// The names of its classes. Takes no memory.
-    pub fn names(&self) -> Names<'_, 'a>
+    pub fn names(&self) -> WalkNames<'_, 'a>
         ensures { result ≡ self.now }
     {
-        Names::new(self.classes, &self.numbers)
+        WalkNames::new(self.classes, &self.numbers)
     }
 }
 
 /// The names of the classes of a walk that something else keeps, seen as the list of them.
 #[derive(Drop)]
-pub struct Names<'w, 'a> {
+pub struct WalkNames<'w, 'a> {
     classes: &'w Classes<'a>,
     numbers: &'w [u32],
 }
 
-impl<'w, 'a> Model for Names<'w, 'a> {
+impl<'w, 'a> Model for WalkNames<'w, 'a> {
     ghost use Rattle.std.specs.Prelude.{◌<◌, All, List, length, map, slice_index_or};
     ghost use Rattle.ld_class.specs.Names.{PlainClass, no_class};
 
@@ -59,13 +59,13 @@ impl<'w, 'a> Model for Names<'w, 'a> {
     ghost invariant = { λ w. All (λ c. c < length w.classes.now) w.numbers.now };
 }
 
-impl<'w, 'a> Names<'w, 'a> {
+impl<'w, 'a> WalkNames<'w, 'a> {
     /// The names of the classes with these numbers.
-    pub(crate) fn new(classes: &'w Classes<'a>, numbers: &'w [u32]) -> Names<'w, 'a>
+    pub(crate) fn new(classes: &'w Classes<'a>, numbers: &'w [u32]) -> WalkNames<'w, 'a>
         requires { All (λ c. c < length classes.now) numbers.now }
         ensures { result ≡ map (λ n. slice_index_or classes.now n no_class) numbers.now }
     {
-        Names { classes, numbers }
+        WalkNames { classes, numbers }
     }
 
     /// How many classes the walk goes over.

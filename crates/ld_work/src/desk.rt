@@ -7,8 +7,7 @@ ghost use Rattle.ld_work.specs.Inner.Seen.{entries_of};
 
 use crate::feeder::{Feeder, MOST_FEEDERS, Tally};
 use crate::kept::Kept;
-use crate::locked::Locked;
-use crate::sums::{audited, joined};
+use crate::locked::{Locked, audited, joined};
 use ld_book::{AddRefusal, Batch, BatchRefusal, Book, Refusal, Series};
 use ld_facts::Facts;
 use ld_history::{Front, Opened, Room};

@@ -9,7 +9,6 @@ mod feeder;
 mod gate;
 mod kept;
 mod locked;
-mod sums;
 mod told;
 mod workers;
 

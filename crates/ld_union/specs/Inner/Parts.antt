@@ -1,6 +1,6 @@
 -- How the numbers of walks lie in one list. No public contract cites this file.
 use Rattle.std.specs.Prelude.{ℕ, ◌+◌, ◌≤◌, List, take, drop}
-use Rattle.ld_union.specs.declared.walk_list.Part.{Part}
+use Rattle.ld_union.specs.declared.findings.forbidden_rows.Part.{Part}
 use Rattle.ld_union.specs.Inner.Walks.{NumberedWalk}
 
 -- the walk of a part

@@ -26,6 +26,15 @@ pub(crate) struct Block {
     latest: u64,
 }
 
+impl Block {
+    /// No dependency.
+    fn empty() -> Block
+        ensures { result ≡ no_block }
+    {
+        Block { bits: 0, latest: 0 }
+    }
+}
+
 /// Dependencies that were seen, so that one that comes again is told by one look at its block, not by a search in the
 /// graph. It is a cache: it has classes with small numbers alone, and fewer of them if memory is refused.
 #[derive(Drop)]
@@ -68,7 +77,7 @@ impl Earlier {
     {
         match self.blocks.get(index_of(edge)) {
             Some(block) => *block,
-            None => Block { bits: 0, latest: 0 },
+            None => Block::empty(),
         }
     }
 
@@ -95,9 +104,8 @@ impl Earlier {
         if index < self.blocks.len() {
             return true;
         }
-        let empty = Block { bits: 0, latest: 0 };
         // Twice as many: a list that grows block by block is copied each time.
-        self.blocks.resize(2 * index + 1, empty).is_ok()
+        self.blocks.resize(2 * index + 1, Block::empty()).is_ok()
     }
 }
 

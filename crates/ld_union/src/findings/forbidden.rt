@@ -14,10 +14,9 @@ ghost use Rattle.ld_union.specs.Inner.Union.{Shows};
 ghost use Rattle.ld_union.specs.Usage.{bits_of};
 
 use crate::alarms::{Found, has, in_bit, on_bit};
-use crate::findings::listed::ForbiddenRows;
+use crate::findings::forbidden_rows::{ForbiddenRows, WalkList};
 use crate::findings::walks::Indexed;
 use crate::reaches::PerState;
-use crate::walk_list::WalkList;
 use ld_class::Usage;
 use ld_trace::State;
 use ld_tree::{Leading, Tree};
