@@ -49,7 +49,10 @@ static inline bool has_marks(void)
     return __atomic_load_n(&regions, __ATOMIC_ACQUIRE) != NULL;
 }
 
-/* Answers whether there is a mark in memory, where there may be one. Most memory that is given back is small: a few words have its marks. */
+/*
+ * Answers whether there is a mark in memory, where there may be one. Most memory that is given back is small: a few
+ * words have its marks.
+ */
 static inline bool is_marked(uint64_t start, uint64_t end)
 {
     bool is_small = end - start <= MOST_SMALL_BYTES && (start ^ (end - 1)) >> REGION_SHIFT == 0;

@@ -7,10 +7,9 @@
  *
  * Class: conn::lock
  * Class: queue::lock
- * Says: 1 times conn::lock was destroyed while it was held, in drop at ..freed-held.c:41
+ * Says: 1 times conn::lock was destroyed while it was held, in drop at ..freed-held.c:32
  */
 #include <stdint.h>
-#include <string.h>
 
 #include "planted.h"
 
@@ -25,14 +24,6 @@ struct queue {
 };
 
 static pthread_mutex_t table = PTHREAD_MUTEX_INITIALIZER;
-
-/* `calloc`, of which the compiler knows, wouldn't give what was freed last. */
-static void *make(size_t size)
-{
-    void *volatile made = malloc(size);
-    must(made != NULL);
-    return memset(made, 0, size);
-}
 
 __attribute__((noinline)) static void drop(struct conn *conn)
 {
@@ -50,10 +41,10 @@ __attribute__((noinline)) static void add(struct queue *queue)
 
 int main(void)
 {
-    struct conn *conn = make(sizeof *conn);
+    struct conn *conn = make_empty(sizeof *conn);
     volatile uintptr_t place = (uintptr_t)conn;
     drop(conn);
-    struct queue *queue = make(sizeof *queue);
+    struct queue *queue = make_empty(sizeof *queue);
     must((uintptr_t)queue == place);
     add(queue);
     return 0;

@@ -5,6 +5,7 @@
 #include <pthread.h>
 #include <stdio.h>
 #include <stdlib.h>
+#include <string.h>
 
 /* Ends the program where what must hold doesn't. */
 static inline void must(int holds)
@@ -35,6 +36,14 @@ static inline void take_and_give(pthread_mutex_t *lock)
 {
     must(pthread_mutex_lock(lock) == 0);
     must(pthread_mutex_unlock(lock) == 0);
+}
+
+/* Gives empty memory. `calloc`, of which the compiler knows, wouldn't give what was freed last. */
+static inline void *make_empty(size_t size)
+{
+    void *volatile made = malloc(size);
+    must(made != NULL);
+    return memset(made, 0, size);
 }
 
 #endif

@@ -19,7 +19,6 @@
 #include <errno.h>
 #include <stddef.h>
 #include <stdint.h>
-#include <string.h>
 
 #include "planted.h"
 
@@ -56,19 +55,11 @@ __attribute__((noinline)) static void *resize(void *memory, size_t size)
     return realloc(memory, size);
 }
 
-/* Gives empty memory. `calloc`, of which the compiler knows, wouldn't give what was freed last. */
-static void *make(size_t size)
-{
-    void *volatile made = malloc(size);
-    must(made != NULL);
-    return memset(made, 0, size);
-}
-
 /* Gives some that isn't the last of the heap, so that it can't grow where it stands. */
 static void *make_inside(size_t size)
 {
-    void *made = make(size);
-    make(size);
+    void *made = make_empty(size);
+    make_empty(size);
     return made;
 }
 
@@ -98,10 +89,10 @@ static void move(void)
     conn = reallocarray(conn, 64, sizeof *conn);
     must(conn && (uintptr_t)conn != place);
     open_conn(conn);
-    struct queue *queue = make(sizeof *queue);
+    struct queue *queue = make_empty(sizeof *queue);
     must((uintptr_t)queue == place);
     add(queue);
-    drain(make(sizeof *queue));
+    drain(make_empty(sizeof *queue));
 }
 
 static struct pool *open_pool(void)
@@ -127,7 +118,7 @@ static void shrink(void)
     volatile uintptr_t place = (uintptr_t)pool, last = (uintptr_t)&pool->last;
     pool = resize(pool, offsetof(struct pool, room));
     must((uintptr_t)pool == place);
-    struct tail *tail = make(sizeof *tail);
+    struct tail *tail = make_empty(sizeof *tail);
     must((uintptr_t)&tail->lock == last);
     touch(tail);
     take_both(&table, &pool->lock);
