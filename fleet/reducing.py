@@ -14,7 +14,12 @@ from packing import Broken, Unable, feed_unpacked, folder_of_input, is_packed
 ROOT = os.path.dirname(os.path.dirname(os.path.realpath(__file__)))
 # `lockgraph reduce` ends with 2 for each fault, and only these are the stream's own: what it lacks memory or room for,
 # or can't read, may go well another time or elsewhere.
-OF_STREAM = re.compile(rb"\b(NoHeader: .*|BadHeader|NoTrace|TooManyTraces|TooLong)\n\Z")
+# An older program says the names of some alone.
+OF_STREAM = re.compile(
+    rb'\b(NoHeader: .*|BadHeader(: a header is "trace LABEL", with one label of .*)?'
+    rb'|NoTrace(: no line "trace LABEL": nothing was recorded, or the file is empty)?'
+    rb"|TooManyTraces(: more than 65,535 traces)?|TooLong(: more than 2,147,483,648 bytes)?)\n\Z"
+)
 REFUSED_LEFT_OUT = 3
 HEADER = re.compile(rb"^[ \t]*trace[ \t]", re.M)
 # So many seconds may lockgraph take for a stream: one of 2 GiB takes some 15.

@@ -3,6 +3,9 @@
 # standard error, and `wanted` what is to be written.
 # shellcheck shell=sh disable=SC2034,SC2086,SC2154 # Some of these are for the parts, and `words_before` may be several.
 here=examples/lockgraph
+# What is said of a file without a trace, and of a line that begins as a header. `bad_header TEXT` quotes its text.
+no_trace_text='NoTrace: no line "trace LABEL": nothing was recorded, or the file is empty'
+bad_header() { printf 'BadHeader: a header is "trace LABEL", with one label of 1 to 64 bytes: "%s"' "$1"; }
 failed=0
 in=$(mktemp)
 out=$(mktemp)

@@ -15,6 +15,8 @@ CONFLICT_EVERY, IN, ON = 100, 3, 64
 FAULTY_EVERY, FAULTY = 25, 13
 REFUSED_EVERY, REFUSED = 40, 11
 EMPTY_EVERY, EMPTY = 50, 30
+# What lockgraph says of a stream without a trace.
+NO_TRACE = 'NoTrace: no line "trace LABEL": nothing was recorded, or the file is empty'
 
 
 def is_faulty(number):
@@ -92,7 +94,8 @@ def fault(number):
     lines = stream(number).count("\n")
     said = '1: NoHeader: no header, as "trace LABEL", stands before "acquire t A"'
     packed = "1: NoHeader: it looks like a file that gzip made: decompress it first"
-    return [said, " NoTrace", f"{lines}: BadHeader", packed][number // FAULTY_EVERY % 4]
+    header = f'{lines}: BadHeader: a header is "trace LABEL", with one label of 1 to 64 bytes: "trace"'
+    return [said, f" {NO_TRACE}", header, packed][number // FAULTY_EVERY % 4]
 
 
 def path(number):

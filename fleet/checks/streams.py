@@ -4,6 +4,7 @@ import re
 import sys
 
 from failures import STAND_IN
+from planted import NO_TRACE
 from rooms import call, fleet, has_parallel, must, night, program, read, unnoted, without_parallel
 
 TEXT = "trace {0}\nacquire t {0}_a\nacquire t {0}_b\n"
@@ -66,7 +67,7 @@ def check_names(room, _count):
         )
         faulty = read(room.path(target), "night.faulty").decode()
         must(
-            faulty == "lockgraph: ./-faulty?.trace: NoTrace\nfifo.trace: not a regular file\n",
+            faulty == f"lockgraph: ./-faulty?.trace: {NO_TRACE}\nfifo.trace: not a regular file\n",
             f"names: the faults are told as\n{faulty}",
         )
     must(

@@ -3,9 +3,10 @@
 use crate::looks::Looks;
 use crate::maps::WrongMap;
 use crate::nearest::NoClass;
+use crate::quote::Quote;
 use ld_check::CheckFault;
 use ld_trace::StreamFault;
-use std::alloc::AllocError;
+use std::alloc::{AllocError, Global};
 use std::io;
 use thiserror::Error;
 
@@ -19,26 +20,32 @@ pub enum Fault<'a> {
     #[error("{0}: read failed")]
     Read(&'a str),
     /// This line of this file says something, and stands before every header.
-    #[error("{0}:{1}: NoHeader")]
+    #[error("{0}:{1}: NoHeader: no header, as \"trace LABEL\", stands before it")]
     NoHeader(&'a str, u64),
     /// The same, and the file looks so.
     #[error("{0}:{1}: NoHeader: {2}")]
     NoStream(&'a str, u64, Looks),
     /// This line of this file begins as a header, and isn't one.
-    #[error("{0}:{1}: BadHeader")]
+    #[error("{0}:{1}: BadHeader: a header is \"trace LABEL\", with one label of 1 to 64 bytes")]
     BadHeader(&'a str, u64),
+    /// The same, and the line begins so.
+    #[error("{0}:{1}: BadHeader: a header is \"trace LABEL\", with one label of 1 to 64 bytes: {2}")]
+    BadHeaderQuoted(&'a str, u64, Quote),
     /// This file has no trace.
-    #[error("{0}: NoTrace")]
+    #[error("{0}: NoTrace: no line \"trace LABEL\": nothing was recorded, or the file is empty")]
     NoTrace(&'a str),
     /// This file has another fault.
-    #[error("{0}: {1}")]
+    #[error("{0}: {1}{bound}", bound = bound(.1))]
     File(&'a str, StreamFault),
     /// The files are no stream together, though each of them is one.
-    #[error("{0}")]
+    #[error("{0}{bound}", bound = bound(.0))]
     Together(StreamFault),
     /// This line of this known text says something, and is no line of a report.
     #[error("{0}:{1}: UnknownLine: neither a line of a report, as \"inversion A -> B at ..\", nor a comment")]
     UnknownLine(&'a str, u64),
+    /// The same, and the line begins so.
+    #[error("{0}:{1}: UnknownLine: neither a line of a report, as \"inversion A -> B at ..\", nor a comment: {2}")]
+    UnknownLineQuoted(&'a str, u64, Quote),
     /// This is wrong with the map of this name.
     #[error("{0}{1}")]
     Map(&'a str, WrongMap),
@@ -63,8 +70,18 @@ pub enum Fault<'a> {
     Uneven(u64),
 }
 
+/// What is behind the name of a fault that a file or several together are too much.
+fn bound(fault: &StreamFault) -> &'static str {
+    match fault {
+        StreamFault::TooLong => ": more than 2,147,483,648 bytes",
+        StreamFault::TooManyTraces => ": more than 65,535 traces",
+        _ => "",
+    }
+}
+
 impl<'a> Fault<'a> {
     ghost use Rattle.std.specs.Prelude.{◌≡◌};
+    ghost use Rattle.ld_files.specs.Quotes.{IsQuoted};
     ghost use Rattle.ld_files.specs.Streams.{fault_of_file, fault_of_files, looking};
 
     /// A fault of the stream that this file is.
@@ -98,6 +115,31 @@ impl<'a> Fault<'a> {
             Fault::NoHeader(name, line) => Fault::NoStream(name, line, looks),
             fault => fault,
         }
+    }
+
+    /// The same fault of a file with these bytes: a line that is no header, or none of a report, is told with how it
+    /// begins. Where the memory for that is refused, its number alone is told.
+    pub fn quoting(self, alloc: Global, bytes: &[u8]) -> Fault<'a>
+        ensures { IsQuoted bytes.now self.entry result }
+    {
+        match self {
+            Fault::BadHeader(name, line) => match Quote::of(alloc, bytes, line) {
+                Ok(quote) => Fault::BadHeaderQuoted(name, line, quote),
+                Err(_) => Fault::BadHeader(name, line),
+            },
+            Fault::UnknownLine(name, line) => match Quote::of(alloc, bytes, line) {
+                Ok(quote) => Fault::UnknownLineQuoted(name, line, quote),
+                Err(_) => Fault::UnknownLine(name, line),
+            },
+            fault => fault,
+        }
+    }
+
+    /// The same fault of the stream with these bytes that was read from these files.
+    pub fn of_stream(self, alloc: Global, names: &[&'a str], bytes: &[u8]) -> Fault<'a>
+        ensures { IsQuoted bytes.now (fault_of_files names.now self.entry) result }
+    {
+        self.of_files(names).quoting(alloc, bytes)
     }
 }
 

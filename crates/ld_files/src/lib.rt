@@ -8,6 +8,7 @@ mod lines;
 mod looks;
 mod maps;
 mod nearest;
+mod quote;
 mod streams;
 mod told;
 
@@ -17,5 +18,6 @@ pub use homes::homes_wanted;
 pub use looks::{Kind, Looks};
 pub use maps::{MapText, WrongMap, maps_in, maps_of, read_maps};
 pub use nearest::{NoClass, find_class};
+pub use quote::Quote;
 pub use streams::{Streams, is_plain_header, read_file, read_known, read_streams, told_with};
 pub use told::{Told, write_told};

@@ -40,7 +40,7 @@ pub enum WrongMap {
     #[error(": read failed")]
     Read,
     /// It has more bytes than a stream may have.
-    #[error(": TooLong")]
+    #[error(": TooLong: more than 2,147,483,648 bytes")]
     TooLong,
     /// This line isn't one that a recorder writes, or is the last one of a map that is cut off.
     #[error(":{0}: BadMap: no whole map, as a recorder writes it beside a stream")]

@@ -18,7 +18,7 @@ use ld_reduce::{append_ended, is_ended};
 use ld_trace::{LONGEST_STREAM, StreamFault, next_line, split, text};
 use std::alloc::{AllocError, Global};
 use std::rt::Files;
-use std::{fs, io};
+use std::{fs, io, mem};
 
 /// Files that were read as one stream.
 #[derive(Drop)]
@@ -44,7 +44,7 @@ pub fn read_known<'a, R: Files + io::Input + AllocGlobal>(
 {
     let known = read_file(rt, name)?;
     match fault_of_known(name, &known) {
-        Some(fault) => Err(fault),
+        Some(fault) => Err(fault.quoting(rt.alloc(), &known)),
         None => Ok(known),
     }
 }
@@ -129,14 +129,17 @@ fn read_into<'a, R: Files + io::Input + AllocGlobal>(
     name: &'a str,
     is_alone: bool,
 ) -> Result<(), Fault<'a>> {
-    let bytes = read_file(rt, name)?;
+    let mut bytes = read_file(rt, name)?;
     let looks = Looks::of(rt.alloc(), &bytes)?;
     let added = if is_alone {
-        add_alone(rt.alloc(), streams, name, bytes)
+        add_alone(rt.alloc(), streams, name, &mut bytes)
     } else {
-        add(rt.alloc(), streams, name, bytes)
+        add(rt.alloc(), streams, name, &mut bytes)
     };
-    told_with(added, looks)
+    match told_with(added, looks) {
+        Ok(()) => Ok(()),
+        Err(fault) => Err(fault.quoting(rt.alloc(), &bytes)),
+    }
 }
 
 /// How it went to add a file that looks so.
@@ -149,7 +152,8 @@ pub fn told_with<'a>(added: Result<(), Fault<'a>>, looks: Looks) -> Result<(), F
     }
 }
 
-/// Puts the stream of a file behind others. Its last line ends with it.
+/// Puts the stream of a file behind others, and takes its bytes. Its last line ends with it. A file with a fault
+/// keeps its bytes.
 ///
 /// # Errors
 ///
@@ -159,23 +163,26 @@ fn add<'a>(
     alloc: Global,
     streams: &mut Streams<'a>,
     name: &'a str,
-    bytes: Vec<u8>,
+    bytes: &mut Vec<u8>,
 ) -> Result<(), Fault<'a>>
     ensures added { OnOk result (streams.new.bytes.items
-        ≡ streams.old.bytes.items ++ ended bytes.items) }
+        ≡ streams.old.bytes.items ++ ended bytes.old.items) }
     ensures placed { OnOk result (streams.new.places ≡ streams.old.places
-        ++ record { name = name.entry.now; lines = line_count bytes.items } ∷ []) }
-    ensures sound { OnOk result (stream_fault bytes.items ≡ None) }
-    ensures fault { IfSome (stream_fault bytes.items) (λ fault.
+        ++ record { name = name.entry.now; lines = line_count bytes.old.items } ∷ []) }
+    ensures sound { OnOk result (stream_fault bytes.old.items ≡ None) }
+    ensures fault { IfSome (stream_fault bytes.old.items) (λ fault.
         result ≡ Err (fault_of_file name.entry fault)) }
-    ensures traces { OnOk result (has_trace bytes.items ≡ true) }
-    ensures no_trace { stream_fault bytes.items ≡ None → has_trace bytes.items ≡ false →
+    ensures traces { OnOk result (has_trace bytes.old.items ≡ true) }
+    ensures no_trace { stream_fault bytes.old.items ≡ None → has_trace bytes.old.items ≡ false →
         result ≢ Err Fault.Memory → result ≡ Err (Fault.NoTrace name.entry) }
-    ensures memory { stream_fault bytes.items ≡ None → has_trace bytes.items ≡ true →
+    ensures memory { stream_fault bytes.old.items ≡ None → has_trace bytes.old.items ≡ true →
         OnErr result (result ≡ Err Fault.Memory) }
 {
-    match has_trace(alloc, &bytes) {
-        Ok(true) => Ok(put(streams, name, bytes)?),
+    match has_trace(alloc, bytes) {
+        Ok(true) => {
+            let bytes = mem::replace(bytes, Vec::new(alloc));
+            Ok(put(streams, name, bytes)?)
+        }
         Ok(false) => Err(Fault::NoTrace(name)),
         Err(fault) => Err(Fault::of_file(name, fault)),
     }
@@ -190,21 +197,22 @@ fn add_alone<'a>(
     alloc: Global,
     streams: &mut Streams<'a>,
     name: &'a str,
-    bytes: Vec<u8>,
+    bytes: &mut Vec<u8>,
 ) -> Result<(), Fault<'a>>
     ensures added { OnOk result (streams.new.bytes.items
-        ≡ streams.old.bytes.items ++ ended bytes.items) }
+        ≡ streams.old.bytes.items ++ ended bytes.old.items) }
     ensures placed { OnOk result (streams.new.places ≡ streams.old.places
-        ++ record { name = name.entry.now; lines = line_count bytes.items } ∷ []) }
-    ensures fault { IfSome (stream_fault bytes.items) (λ fault.
+        ++ record { name = name.entry.now; lines = line_count bytes.old.items } ∷ []) }
+    ensures fault { IfSome (stream_fault bytes.old.items) (λ fault.
         OnErr result (result ≢ Err Fault.Memory → result ≡ Err (fault_of_file name.entry fault))) }
-    ensures traces { OnOk result (has_trace bytes.items ≡ true) }
-    ensures no_trace { stream_fault bytes.items ≡ None → has_trace bytes.items ≡ false →
+    ensures traces { OnOk result (has_trace bytes.old.items ≡ true) }
+    ensures no_trace { stream_fault bytes.old.items ≡ None → has_trace bytes.old.items ≡ false →
         result ≢ Err Fault.Memory → result ≡ Err (Fault.NoTrace name.entry) }
-    ensures memory { stream_fault bytes.items ≡ None → has_trace bytes.items ≡ true →
+    ensures memory { stream_fault bytes.old.items ≡ None → has_trace bytes.old.items ≡ true →
         OnErr result (result ≡ Err Fault.Memory) }
 {
-    if has_plain_header(&bytes) {
+    if has_plain_header(bytes) {
+        let bytes = mem::replace(bytes, Vec::new(alloc));
         return Ok(put(streams, name, bytes)?);
     }
     add(alloc, streams, name, bytes)

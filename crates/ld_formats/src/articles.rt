@@ -86,7 +86,7 @@ impl Articles<'_, '_, '_> {
                 self.text.number(most.dependency as u64)?;
                 self.text.put("\">")?;
                 self.pair(dependency)?;
-                self.text.put("</a> in the path that is shown. ")?;
+                self.text.put("</a> in the cycle or path that is shown. ")?;
                 self.text.put(advice_on(dependency))?;
             }
         }

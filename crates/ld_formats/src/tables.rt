@@ -6,6 +6,9 @@ use ld_escape::Form;
 use ld_rows::{At, ClassRow, Frame, Origin, Place, Rows};
 use std::alloc::{AllocError, Global};
 
+/// The uses of which a class's row has the first ones, in their order.
+const FIRST_USES: [&str; 4] = ["in hard", "on hard", "in soft", "on soft"];
+
 /// Writes the refused traces, if there is one.
 pub(crate) fn write_refused(text: &mut Text, rows: &Rows<'_>) -> Result<(), AllocError> {
     if rows.refused.is_empty() {
@@ -44,14 +47,14 @@ pub(crate) fn write_classes(
         count(&mut behind, edge.from);
     }
     text.put(
-        "<h2>Classes</h2>\n<p class=\"soft\">Usage characters: of hard and soft handlers, in turn those that acquire the class, and where it is held while they can interrupt. With a script, a click on a name shows the classes around it, and one on a heading sorts.</p>\n",
+        "<h2>Classes</h2>\n<p class=\"soft\">Usage: the first character is for hard interrupts, the third for softirqs, and the others are always <code>.</code>. <code>-</code>: acquired by handlers (a <code>try</code> doesn't count). <code>+</code>: held with the interrupts enabled. <code>?</code>: both, which is a conflict. <code>.</code>: neither. A program without handlers has no <code>-</code> and no <code>?</code>. Below them stands where each was first seen: acquired <code>in</code> a handler, or held with interrupts <code>on</code>.</p>\n<p class=\"soft\">With a script, a click on a name shows the classes around it, and one on a heading sorts.</p>\n",
     )?;
     write_walk(text)?;
     text.put(
         "<p class=\"filter scripted\" hidden><input type=\"search\" id=\"find-class\" placeholder=\"A part of a name\" aria-label=\"Find classes\"></p>\n",
     )?;
     text.put(
-        "<table id=\"classes\"><thead><tr><th>Class</th><th>Usage</th><th data-numbers=\"1\">Acquired while held</th><th data-numbers=\"1\">Held while acquired</th><th>From</th></tr></thead><tbody id=\"class-rows\">\n",
+        "<table id=\"classes\"><thead><tr><th>Class</th><th>Usage</th><th data-numbers=\"1\">Acquired while held</th><th data-numbers=\"1\">Held while acquired</th><th>What it is</th></tr></thead><tbody id=\"class-rows\">\n",
     )?;
     for (place, row) in rows.classes.iter().enumerate() {
         write_class(text, row, place as u64)?;
@@ -90,17 +93,19 @@ fn write_class(text: &mut Text, row: &ClassRow<'_>, place: u64) -> Result<(), Al
     text.put("</code></td><td><code>")?;
     text.name(Form::Markup, &row.marks)?;
     text.put("</code>")?;
-    for at in &row.first {
+    for (used, at) in FIRST_USES.iter().zip(&row.first) {
         if let Some(at) = at {
-            write_first(text, at)?;
+            write_first(text, *used, at)?;
         }
     }
     text.put("</td>")
 }
 
 /// Where a class was first used so.
-fn write_first(text: &mut Text, at: &At<'_>) -> Result<(), AllocError> {
+fn write_first(text: &mut Text, used: &'static str, at: &At<'_>) -> Result<(), AllocError> {
     text.put("<br>")?;
+    text.put(used)?;
+    text.put(" at ")?;
     text.name(Form::Markup, at.label)?;
     text.put(" ")?;
     LINES.at(text, at)

@@ -38,11 +38,14 @@ pub fn answer_cut<'a, R: Files + io::Input + Print + AllocGlobal>(
     rt: &R,
     words: &CutWords<'a>,
 ) -> Result<Verdict, Fault<'a>> {
-    let streams = read_streams(rt, &words.given.files)?;
+    let files = &words.given.files;
+    let streams = read_streams(rt, files)?;
     let mut output = Std::new(io::writer(rt));
     match write_cut(rt.alloc(), &streams.bytes, words.lines, &mut output) {
         Ok(()) => Ok(Verdict::Clean),
-        Err(CutFault::Stream(fault)) => Err(Fault::Together(fault)),
+        Err(CutFault::Stream(fault)) => {
+            Err(Fault::Together(fault).of_stream(rt.alloc(), files, &streams.bytes))
+        }
         Err(CutFault::TooLong) => Err(Fault::Pieces),
         Err(CutFault::Write) => Err(Fault::Write),
         Err(CutFault::Memory) => Err(Fault::Memory),

@@ -40,9 +40,12 @@ pub fn answer_dot<'a, R: Files + io::Input + Print + AllocGlobal + Threads + Wai
         &maps,
         drawn_by(words),
         words.mapped.given.workers,
-    )?;
+    );
     let mut output = Std::new(io::writer(rt));
-    write_told(&mut output, &told)
+    match told {
+        Ok(told) => write_told(&mut output, &told),
+        Err(fault) => Err(fault.of_stream(rt.alloc(), files, &streams.bytes)),
+    }
 }
 
 /// What the words ask to draw.

@@ -49,8 +49,11 @@ pub fn answer_explain<'a, R: Files + io::Input + Print + AllocGlobal + Threads +
         &maps,
         &choice,
         words.mapped.given.workers,
-    )?;
-    let told = shown_of(rt.alloc(), told, colours)?;
+    );
+    let told = match told {
+        Ok(told) => shown_of(rt.alloc(), told, colours)?,
+        Err(fault) => return Err(fault.of_stream(rt.alloc(), files, &streams.bytes)),
+    };
     let mut output = Std::new(io::writer(rt));
     write_told(&mut output, &told)
 }

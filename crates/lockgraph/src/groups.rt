@@ -113,7 +113,10 @@ fn add<'a, R: Threads + Wait + Sync>(
         → Stands keeping group.new (behind all (file_read keeping.from name.entry.now (ended bytes.items)))) }
 {
     let bytes = end(bytes)?;
-    let found = found_in(alloc, name, &bytes, keeping.from)?;
+    let found = match found_in(alloc, name, &bytes, keeping.from) {
+        Ok(found) => found,
+        Err(fault) => return Err(fault.quoting(alloc, &bytes)),
+    };
     let homes = found.homes.as_slice();
     let traces = found.traces;
     let begins = begins_plainly(&bytes);

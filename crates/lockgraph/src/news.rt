@@ -69,7 +69,8 @@ pub fn answer_new<'a, R: Files + io::Input + Print + AllocGlobal + Threads + Wai
 ) -> Result<Verdict, Fault<'a>> {
     // A mistake in it is told before the traces are read.
     let known = read_known(rt, words.known)?;
-    let streams = read_streams(rt, &words.given.files)?;
+    let files = &words.given.files;
+    let streams = read_streams(rt, files)?;
     let mut output = Std::new(io::writer(rt));
     match write_news(
         rt,
@@ -82,7 +83,10 @@ pub fn answer_new<'a, R: Files + io::Input + Print + AllocGlobal + Threads + Wai
         words.given.workers,
     ) {
         Ok(verdict) => Ok(verdict),
-        Err(fault) => Err(fault_of_news(words.known, fault)),
+        Err(fault) => {
+            let fault = fault_of_news(words.known, fault);
+            Err(fault.of_stream(rt.alloc(), files, &streams.bytes))
+        }
     }
 }
 

@@ -71,7 +71,8 @@ pub fn answer_reduce<'a, R: Files + io::Input + Print + AllocGlobal + Threads + 
     if words.given.files.len() > 1 {
         return answer_group(rt, words);
     }
-    let streams = read_streams(rt, &words.given.files)?;
+    let files = &words.given.files;
+    let streams = read_streams(rt, files)?;
     let mut output = Std::new(io::writer(rt));
     let workers = words.given.workers;
     match write_reduced(
@@ -84,7 +85,7 @@ pub fn answer_reduce<'a, R: Files + io::Input + Print + AllocGlobal + Threads + 
         workers,
     ) {
         Ok(verdict) => Ok(verdict),
-        Err(fault) => Err(fault_of_reduce(fault)),
+        Err(fault) => Err(fault_of_reduce(fault).of_stream(rt.alloc(), files, &streams.bytes)),
     }
 }
 

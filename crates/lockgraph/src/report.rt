@@ -28,10 +28,14 @@ pub fn answer_check<'a, R: Files + io::Input + Print + AllocGlobal + Threads + W
     rt: &R,
     words: &CheckWords<'a>,
 ) -> Result<Verdict, Fault<'a>> {
-    let streams = read_streams(rt, &words.given.files)?;
+    let files = &words.given.files;
+    let streams = read_streams(rt, files)?;
     let mut output = Std::new(io::writer(rt));
     let workers = words.given.workers;
-    write_report(rt, rt.alloc(), &streams.bytes, &mut output, workers)
+    match write_report(rt, rt.alloc(), &streams.bytes, &mut output, workers) {
+        Ok(verdict) => Ok(verdict),
+        Err(fault) => Err(fault.of_stream(rt.alloc(), files, &streams.bytes)),
+    }
 }
 
 /// Writes and flushes the report of a stream, whose traces that many workers read at once: what lockcheck writes of

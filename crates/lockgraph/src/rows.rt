@@ -142,13 +142,16 @@ fn answer_rows<'a, R: Files + io::Input + Print + AllocGlobal + Threads + Wait +
     let workers = mapped.given.workers;
     let told = match &known {
         Some(known) => match news_told(rt, alloc, bytes, places, &known.text, &maps, way, workers) {
-            Ok(told) => told,
-            Err(fault) => return Err(fault_of_news(known.name, fault)),
+            Ok(told) => Ok(told),
+            Err(fault) => Err(fault_of_news(known.name, fault)),
         },
-        None => rows_told(rt, alloc, bytes, places, &maps, way, workers)?,
+        None => rows_told(rt, alloc, bytes, places, &maps, way, workers),
     };
     let mut output = Std::new(io::writer(rt));
-    write_told(&mut output, &told)
+    match told {
+        Ok(told) => write_told(&mut output, &told),
+        Err(fault) => Err(fault.of_stream(alloc, files, bytes)),
+    }
 }
 
 /// The report of these streams, whose traces that many workers read at once. May wait.

@@ -39,9 +39,11 @@ pub fn answer_shown<'a, R: Files + io::Input + Print + AllocGlobal + Threads + W
     topic: Topic<'a>,
 ) -> Result<Verdict, Fault<'a>> {
     let streams = read_streams(rt, &given.files)?;
-    let told = shown_of(rt, rt.alloc(), &streams, topic, given.workers)?;
     let mut output = Std::new(io::writer(rt));
-    write_told(&mut output, &told)
+    match shown_of(rt, rt.alloc(), &streams, topic, given.workers) {
+        Ok(told) => write_told(&mut output, &told),
+        Err(fault) => Err(fault.of_stream(rt.alloc(), &given.files, &streams.bytes)),
+    }
 }
 
 /// What is asked of these streams, whose traces that many workers read at once. May wait.

@@ -26,6 +26,15 @@ ACTIVE = re.compile("on.*|src|srcset|srcdoc|style|action|formaction|data|poster|
 # What a page may lead to: a part of its own, and no icon.
 LEADS_TO = re.compile(r"#[a-z]\d+|data:,")
 POLICY = "default-src 'none'; style-src 'unsafe-inline'; script-src 'unsafe-inline'"
+# What is said above the table of classes, and what its columns are called.
+USAGE = (
+    "Usage: the first character is for hard interrupts, the third for softirqs, and the others are always"
+    " <code>.</code>. <code>-</code>: acquired by handlers (a <code>try</code> doesn't count). <code>+</code>:"
+    " held with the interrupts enabled. <code>?</code>: both, which is a conflict. <code>.</code>: neither. A"
+    " program without handlers has no <code>-</code> and no <code>?</code>. Below them stands where each was"
+    " first seen: acquired <code>in</code> a handler, or held with interrupts <code>on</code>."
+)
+COLUMNS = ["Class", "Usage", "Acquired while held", "Held while acquired", "What it is"]
 # Appended to a page, it types into both search boxes, and puts what is shown then into the page's title.
 TYPED = """
 const word = {word};
@@ -141,6 +150,9 @@ def look(case):
     same(page.counts, wanted, "the counts")
     same(sorted(page.lines), sorted(map(shown, case.violations)), "the violations")
     must(all(it[1:] in page.names for it in page.leads if it.startswith("#")), "a link leads to nothing")
+    if case.facts.classes:
+        must(f'<p class="soft">{USAGE}</p>' in text, "the usage characters aren't explained")
+        same(re.findall("<th(?: [^>]*)?>(.*?)</th>", text)[-len(COLUMNS) :], COLUMNS, "the columns of the classes")
     graph = json.loads(page.scripts[0])
     same(len(page.scripts), 2, "how many scripts there are")
     same(sorted(graph["classes"]), classes_of(case), "the classes of the graph")
@@ -189,7 +201,7 @@ class Told:
         text += f"Violations that share dependencies: {len(group)}."
         steps = [step for it in group for step in dict.fromkeys(it.steps)]
         most = max(dict.fromkeys(steps), key=steps.count)
-        text += f" Of them {steps.count(most)} have {pair(most)} in the path that is shown. "
+        text += f" Of them {steps.count(most)} have {pair(most)} in the cycle or path that is shown. "
         if most[0] == most[1]:
             text += "Make one order for these locks and give the inner one another class, or hold one at a time. Then check"
         else:
@@ -235,7 +247,11 @@ class Told:
 
     def row(self, class_of):
         seen = [self.facts.uses.get((class_of, *it)) for it in USES]
-        first = "".join(f"{it.line.label} {it.line.file}:{it.line.file_number}" for it in seen if it)
+        first = "".join(
+            f"{used} {state} at {it.line.label} {it.line.file}:{it.line.file_number}"
+            for (used, state), it in zip(USES, seen)
+            if it
+        )
         count = [sum(it[place] == class_of for it in self.facts.dependencies) for place in (1, 0)]
         origin = self.origins.get(class_of[0] if class_of[1] else class_of[0].removesuffix("!read"), "")
         return [name_of(class_of), self.stories.shown.marks(class_of)[1:-1] + first, *map(str, count), origin]
