@@ -5,7 +5,7 @@
 here=examples/lockgraph
 # What is said of a file without a trace, and of a line that begins as a header. `bad_header TEXT` quotes its text.
 no_trace_text='NoTrace: no line "trace LABEL": nothing was recorded, or the file is empty'
-bad_header() { printf 'BadHeader: a header is "trace LABEL", with one label of 1 to 64 bytes: "%s"' "$1"; }
+bad_header() { printf 'BadHeader: a header is "trace LABEL", with one label of 1 to 64 bytes from ! to ~: "%s"' "$1"; }
 failed=0
 in=$(mktemp)
 out=$(mktemp)

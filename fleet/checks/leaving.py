@@ -103,7 +103,7 @@ def check_packed(room, _count):
     faulty = [it.partition(": it can't be decompressed")[0] for it in told]
     cut = [f"cut{number}.trace{ending}" for number, ending in enumerate(PACKERS)]
     headless = [
-        f"lockgraph: headless{number}.trace{ending}:1: NoHeader: no header, as \"trace LABEL\", stands before"
+        f"lockgraph: headless{number}.trace{ending}:1: NoHeader: no line \"trace LABEL\" is above this line:"
         f' "acquire t A{number}"'
         for number, ending in enumerate(PACKERS)
     ]

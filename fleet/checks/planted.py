@@ -92,9 +92,9 @@ def stream(number, traces=4, episodes=20):
 def fault(number):
     """What lockgraph says is wrong with a stream at fault, behind its name."""
     lines = stream(number).count("\n")
-    said = '1: NoHeader: no header, as "trace LABEL", stands before "acquire t A"'
+    said = '1: NoHeader: no line "trace LABEL" is above this line: "acquire t A"'
     packed = "1: NoHeader: it looks like a file that gzip made: decompress it first"
-    header = f'{lines}: BadHeader: a header is "trace LABEL", with one label of 1 to 64 bytes: "trace"'
+    header = f'{lines}: BadHeader: a header is "trace LABEL", with one label of 1 to 64 bytes from ! to ~: "trace"'
     return [said, f" {NO_TRACE}", header, packed][number // FAULTY_EVERY % 4]
 
 

@@ -1,5 +1,5 @@
 -- How a line begins that a fault names.
-use Rattle.std.specs.Prelude.{◌≡◌, ◌⊎◌, ℕ, ◌-◌, List, [], ◌∷◌, ⊥, nat_lt, take, if◌then◌else◌}
+use Rattle.std.specs.Prelude.{◌≡◌, ◌⊎◌, ℕ, ◌-◌, List, [], ◌∷◌, nat_lt, take, if◌then◌else◌}
 use Rattle.ld_trace.specs.Lines.{lines, text_of}
 use Rattle.ld_files.specs.declared.looks.TheConstants.{MOST_SHOWN}
 use Rattle.ld_files.specs.declared.quote.Quote.{Quote}

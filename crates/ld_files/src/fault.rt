@@ -20,16 +20,16 @@ pub enum Fault<'a> {
     #[error("{0}: read failed")]
     Read(&'a str),
     /// This line of this file says something, and stands before every header.
-    #[error("{0}:{1}: NoHeader: no header, as \"trace LABEL\", stands before it")]
+    #[error("{0}:{1}: NoHeader: no line \"trace LABEL\" is above this line")]
     NoHeader(&'a str, u64),
     /// The same, and the file looks so.
     #[error("{0}:{1}: NoHeader: {2}")]
     NoStream(&'a str, u64, Looks),
     /// This line of this file begins as a header, and isn't one.
-    #[error("{0}:{1}: BadHeader: a header is \"trace LABEL\", with one label of 1 to 64 bytes")]
+    #[error("{0}:{1}: BadHeader: a header is \"trace LABEL\", with one label of 1 to 64 bytes from ! to ~")]
     BadHeader(&'a str, u64),
     /// The same, and the line begins so.
-    #[error("{0}:{1}: BadHeader: a header is \"trace LABEL\", with one label of 1 to 64 bytes: {2}")]
+    #[error("{0}:{1}: BadHeader: a header is \"trace LABEL\", with one label of 1 to 64 bytes from ! to ~: {2}")]
     BadHeaderQuoted(&'a str, u64, Quote),
     /// This file has no trace.
     #[error("{0}: NoTrace: no line \"trace LABEL\": nothing was recorded, or the file is empty")]

@@ -9,7 +9,7 @@ use std::fmt;
 use thiserror::Error;
 
 /// How many bytes of a line are shown.
-pub const MOST_SHOWN: usize = 60;
+pub const MOST_SHOWN: usize = 80;
 
 /// What a file is that isn't a stream, if its first bytes tell it.
 #[derive(Clone, Copy, Debug, Error)]
@@ -109,7 +109,7 @@ impl fmt::Display for Looks {
         match self {
             Looks::Like(kind) => write!(f, "{kind}"),
             Looks::Line(line) => {
-                write!(f, "no header, as \"trace LABEL\", stands before \"")?;
+                write!(f, "no line \"trace LABEL\" is above this line: \"")?;
                 for byte in line {
                     write_shown(f, *byte)?;
                 }

@@ -46,7 +46,7 @@ pub enum WrongMap {
     #[error(":{0}: BadMap: no whole map, as a recorder writes it beside a stream")]
     Line(u64),
     /// It is the map of another stream: one of so many lines, where this one has so many.
-    #[error(": BadMap: the map of another stream, of {of} lines, where this one has {has}")]
+    #[error(": BadMap: it is of {of} lines, and the stream has {has}: another stream, or one that was cut off")]
     OtherStream { of: u64, has: u64 },
 }
 

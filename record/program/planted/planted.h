@@ -5,7 +5,6 @@
 #include <pthread.h>
 #include <stdio.h>
 #include <stdlib.h>
-#include <string.h>
 
 /* Ends the program where what must hold doesn't. */
 static inline void must(int holds)
@@ -43,7 +42,10 @@ static inline void *make_empty(size_t size)
 {
     void *volatile made = malloc(size);
     must(made != NULL);
-    return memset(made, 0, size);
+    char *bytes = (char *)made;
+    for (size_t i = 0; i < size; i++)
+        bytes[i] = 0;
+    return made;
 }
 
 #endif
