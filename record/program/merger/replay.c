@@ -130,15 +130,28 @@ static void on_destroy(bool is_kept, const struct unit *first)
         begin_lock(lock, NULL);
 }
 
-/* Memory was given back: its locks are destroyed, in the order in which they were met. */
+static void destroy_freed(struct lock *lock, const struct unit *first)
+{
+    if (!lock || !lock->class)
+        return;
+    note_destroyed(lock, first);
+    begin_lock(lock, NULL);
+}
+
+/* Memory was given back: its locks are destroyed. Mostly it has fewer bytes than there are locks: then a lock is looked
+   up at each, so that a program with many locks isn't gone over for each of its calls. */
 static void on_freed(const struct unit *first)
 {
+    uint64_t length = first[1].head;
+    if (length < locks.count) {
+        for (uint64_t byte = 0; byte < length; byte++)
+            destroy_freed(find_lock(&locks, first->value + byte, false), first);
+        return;
+    }
     for (size_t number = 0; number < locks.count; number++) {
         struct lock *lock = &locks.all[number];
-        if (!lock->class || lock->address - first->value >= first[1].head)
-            continue;
-        note_destroyed(lock, first);
-        begin_lock(lock, NULL);
+        if (lock->address - first->value < length)
+            destroy_freed(lock, first);
     }
 }
 
