@@ -1,32 +1,44 @@
 -- What a file looks like that is no stream of traces.
-use Rattle.std.specs.Prelude.{◌≡◌, ℕ, Bool, not, ◌||◌, List, [], ◌∷◌, Option, Some, None, codes, find, map, nat_eq, take, unwrap_or, if◌then◌else◌}
+use Rattle.std.specs.Prelude.{◌≡◌, ℕ, Bool, not, ◌||◌, List, [], ◌∷◌, ◌++◌, Option, Some, None, codes, find, map, nat_eq, take, unwrap_or, if◌then◌else◌}
 use Rattle.std.specs.List.{starts_with}
+use Rattle.std.specs.Option.{option_or}
 use Rattle.ld_trace.specs.Lines.{lines, text_of}
 use Rattle.ld_baseline.specs.Known.{is_comment}
 use Rattle.ld_files.specs.declared.looks.Kind.{Kind}
-use Rattle.ld_files.specs.declared.looks.Kind.TheVariants.{Xz, Gzip, Ftrace, Report, Map}
+use Rattle.ld_files.specs.declared.looks.Kind.TheVariants.{Xz, Gzip, Zstd, Bzip2, Zip, Utf16, Marked, TraceDat, Ftrace, Report, Map}
 use Rattle.ld_files.specs.declared.looks.Looks.{Looks}
 use Rattle.ld_files.specs.declared.looks.Looks.TheVariants.{Like, Line}
 use Rattle.ld_files.specs.declared.looks.TheConstants.{MOST_SHOWN}
 
--- the first bytes of each file that xz makes
-abbrev pub xz_magic : List ℕ
-xz_magic = 253 ∷ 55 ∷ 122 ∷ 88 ∷ 90 ∷ 0 ∷ []
+-- a file begins with these bytes
+abbrev pub begins : List ℕ → List ℕ → Bool
+begins bytes front = starts_with nat_eq bytes front
 
--- and of each that gzip makes
-abbrev pub gzip_magic : List ℕ
-gzip_magic = 31 ∷ 139 ∷ []
-
--- what a file is, if it begins as xz or gzip make it, as ftrace or trace-cmd print, as lockcheck reports, or as a
--- recorder of programs writes a map
-abbrev pub kind_of : List ℕ → Option Kind
-kind_of bytes =
-    if starts_with nat_eq bytes xz_magic then Some Xz
-    else if starts_with nat_eq bytes gzip_magic then Some Gzip
-    else if starts_with nat_eq bytes (codes "# tracer: ") || starts_with nat_eq bytes (codes "cpus=") then Some Ftrace
-    else if starts_with nat_eq bytes (codes "traces ") then Some Report
-    else if starts_with nat_eq bytes (codes "places ") then Some Map
+-- what a file is that has to be unpacked, by the first bytes of each file that xz makes, or gzip, zstd, bzip2 or zip
+abbrev pub packed : List ℕ → Option Kind
+packed bytes =
+    if begins bytes (253 ∷ codes "7zXZ" ++ 0 ∷ []) then Some Xz
+    else if begins bytes (31 ∷ 139 ∷ []) then Some Gzip
+    else if begins bytes (40 ∷ 181 ∷ 47 ∷ 253 ∷ []) then Some Zstd
+    else if begins bytes (codes "BZh") then Some Bzip2
+    else if begins bytes (codes "PK" ++ 3 ∷ 4 ∷ []) then Some Zip
     else None
+
+-- what another file is: by the byte order marks of UTF-16 and of UTF-8, by the first bytes that trace-cmd records, or
+-- by what ftrace or trace-cmd print, lockcheck reports, and a recorder of programs writes into a map
+abbrev pub unpacked : List ℕ → Option Kind
+unpacked bytes =
+    if begins bytes (255 ∷ 254 ∷ []) || begins bytes (254 ∷ 255 ∷ []) then Some Utf16
+    else if begins bytes (239 ∷ 187 ∷ 191 ∷ []) then Some Marked
+    else if begins bytes (23 ∷ 8 ∷ codes "Dtracing") then Some TraceDat
+    else if begins bytes (codes "# tracer: ") || begins bytes (codes "cpus=") then Some Ftrace
+    else if begins bytes (codes "traces ") then Some Report
+    else if begins bytes (codes "places ") then Some Map
+    else None
+
+-- what a file is, if its first bytes tell it
+abbrev pub kind_of : List ℕ → Option Kind
+kind_of bytes = option_or (packed bytes) (unpacked bytes)
 
 -- a line without its end that says something
 abbrev pub says : List ℕ → Bool

@@ -1,6 +1,6 @@
 //! What a file looks like that is no stream of traces.
 ghost use Rattle.std.specs.Prelude.{◌≡◌, IfOk, take};
-ghost use Rattle.ld_files.specs.Looks.{IsLook, first_said, kind_of};
+ghost use Rattle.ld_files.specs.Looks.{IsLook, first_said, kind_of, packed, unpacked};
 
 use ld_baseline::is_comment;
 use ld_trace::{next_line, text};
@@ -20,6 +20,24 @@ pub enum Kind {
     /// What gzip made.
     #[error("it looks like a file that gzip made: decompress it first")]
     Gzip,
+    /// What zstd made.
+    #[error("it looks like a file that zstd made: decompress it first")]
+    Zstd,
+    /// What bzip2 made.
+    #[error("it looks like a file that bzip2 made: decompress it first")]
+    Bzip2,
+    /// A zip archive.
+    #[error("it looks like a zip archive: unpack it first")]
+    Zip,
+    /// A text in UTF-16.
+    #[error("it looks like a text in UTF-16: convert it to UTF-8 first")]
+    Utf16,
+    /// A text with a byte order mark.
+    #[error("it begins with a byte order mark: take it away first")]
+    Marked,
+    /// What trace-cmd records.
+    #[error("it looks like a recording of trace-cmd, of which record/kernel/convert makes a stream")]
+    TraceDat,
     /// What ftrace or trace-cmd print.
     #[error("it looks like text of ftrace, of which record/kernel/convert makes a stream")]
     Ftrace,
@@ -63,10 +81,41 @@ impl Looks {
 fn kind_of(bytes: &[u8]) -> Option<Kind>
     ensures { result ≡ kind_of bytes.now }
 {
+    match packed(bytes) {
+        Some(kind) => Some(kind),
+        None => unpacked(bytes),
+    }
+}
+
+/// What made a file that begins so, if it has to be unpacked.
+fn packed(bytes: &[u8]) -> Option<Kind>
+    ensures { result ≡ packed bytes.now }
+{
     if bytes.starts_with(b"\xfd7zXZ\0") {
         Some(Kind::Xz)
     } else if bytes.starts_with(b"\x1f\x8b") {
         Some(Kind::Gzip)
+    } else if bytes.starts_with(b"\x28\xb5\x2f\xfd") {
+        Some(Kind::Zstd)
+    } else if bytes.starts_with(b"BZh") {
+        Some(Kind::Bzip2)
+    } else if bytes.starts_with(b"PK\x03\x04") {
+        Some(Kind::Zip)
+    } else {
+        None
+    }
+}
+
+/// What another file is that begins so, if these bytes tell it.
+fn unpacked(bytes: &[u8]) -> Option<Kind>
+    ensures { result ≡ unpacked bytes.now }
+{
+    if bytes.starts_with(b"\xff\xfe") || bytes.starts_with(b"\xfe\xff") {
+        Some(Kind::Utf16)
+    } else if bytes.starts_with(b"\xef\xbb\xbf") {
+        Some(Kind::Marked)
+    } else if bytes.starts_with(b"\x17\x08Dtracing") {
+        Some(Kind::TraceDat)
     } else if bytes.starts_with(b"# tracer: ") || bytes.starts_with(b"cpus=") {
         Some(Kind::Ftrace)
     } else if bytes.starts_with(b"traces ") {

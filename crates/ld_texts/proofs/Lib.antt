@@ -1,1 +1,2 @@
 pub mod ReaderLemmas
+mod StatsLemmas

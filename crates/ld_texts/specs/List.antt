@@ -1,5 +1,5 @@
 -- The text of `list`: a line for each class of the union. Each line ends with LF. No clause says what is counted.
-use Rattle.std.specs.Prelude.{◌≡◌, ℕ, Bool, true, false, ◌==◌, ◌&&◌, not, List, [], ◌∷◌, ◌++◌, slice_index_or, Option, None, Some, codes, decimal, if◌then◌else◌}
+use Rattle.std.specs.Prelude.{◌≡◌, ℕ, Bool, false, ◌==◌, ◌&&◌, not, List, [], ◌∷◌, ◌++◌, slice_index_or, Option, None, Some, codes, decimal, if◌then◌else◌}
 use Rattle.std.specs.List.Sorted.{IsPermutation}
 use Rattle.ld_class.specs.Names.{PlainClass, plain_class, same_class}
 use Rattle.ld_class.specs.Usage.{marks_of}

@@ -13,13 +13,13 @@ use std::thread::Threads;
 pub(crate) struct Figures {
     /// How often it is acquired.
     pub acquired: u64,
-    /// From how many classes walks of dependencies lead to it.
+    /// How many classes have a path to it.
     pub reached_from: u64,
-    /// To how many they lead from it.
+    /// How many classes it has a path to.
     pub reaches: u64,
 }
 
-/// Those of a class that isn't there.
+/// The figures of a class that isn't there.
 const NO_FIGURES: Figures = Figures {
     acquired: 0,
     reached_from: 0,
@@ -56,7 +56,7 @@ fn joined(
     Ok(figures)
 }
 
-/// Those of one class. They are 0 if there is none of this number.
+/// The figures of one class. They are 0 if there is none of this number.
 pub(crate) fn figures_of(figures: &[Figures], class: u32) -> Figures
     ensures { result ≡ figures_of figures.now class }
 {

@@ -1,11 +1,11 @@
-//! The texts of `list` and `stats`: what they tell of a book, over every class and every dependency in the order of a
-//! report.
+//! The texts of `list` (classes and dependencies) and `stats` (figures).
 #![tactic(auto)]
 
 mod figures;
 mod list;
 mod shape;
 mod stats;
+mod violations;
 mod wanted;
 mod writing;
 

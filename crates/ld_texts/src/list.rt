@@ -1,4 +1,4 @@
-//! The list of classes.
+//! The texts of `list`: all classes, their dependencies, or one class.
 ghost use Rattle.std.specs.Prelude.{◌≡◌, ◌++◌, IfOk, None, OnOk, option_map};
 ghost use Rattle.ld_class.specs.Names.{plain_class};
 ghost use Rattle.ld_texts.specs.List.{IsClassList, class_line, figures_text, head_text, is_under, level_of, lines_below};

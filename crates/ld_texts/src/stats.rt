@@ -1,16 +1,23 @@
-//! How much some traces are and show, one figure a line.
+//! Figures of traces, events, classes, dependencies and violations, one a line.
+ghost use Rattle.std.specs.Prelude.{◌≡◌, ◌++◌, ◌<◌, ◌==◌, ℕ, IfOk, List, None, OnOk, codes, decimal, filter, length, map, not, slice_index_or};
+ghost use Rattle.std.specs.Option.{is_some};
+ghost use Rattle.ld_rules.specs.Outcome.{name_of};
+ghost use Rattle.ld_texts.specs.declared.shape.SizeCount.{SizeCount};
+ghost use Rattle.ld_texts.specs.Stats.{IsStats, figure_line, figure_lines, is_refused_for, of_classes, of_components, of_events, of_dependencies, of_traces};
 
-use crate::shape::components;
+use crate::shape::{SizeCount, by_size, cyclic_sizes};
+use crate::violations::write_violations;
+use crate::writing::{write_figure, write_figures, write_prefixed};
+use ld_class::Classes;
 use ld_counts::{Counted, Verbs};
-use ld_overview::{Book, Findings, Totals};
+use ld_overview::{Book, UsageRow};
 use ld_places::Places;
 use ld_rules::{Listed, Outcome, TraceFault};
-use ld_trace::State;
 use std::alloc::{AllocError, Global};
 use std::io::Write;
 use std::thread::Threads;
 
-/// Each fault of a trace, in their order.
+/// Every fault of a trace, in the order of `TraceFault`.
 const FAULTS: [TraceFault; 14] = [
     TraceFault::BadVerb,
     TraceFault::BadCount,
@@ -28,9 +35,6 @@ const FAULTS: [TraceFault; 14] = [
     TraceFault::LateBegin,
 ];
 
-/// The names of the usage bits, in the order in which a row of usage has them.
-const BITS: [&str; 4] = ["in-hard", "on-hard", "in-soft", "on-soft"];
-
 /// The figures of a book of a stream whose lines stand at these places. That many threads read its traces at once.
 pub(crate) fn stats_text<R: Threads + Sync>(
     rt: &R,
@@ -38,86 +42,76 @@ pub(crate) fn stats_text<R: Threads + Sync>(
     book: &Book<'_>,
     places: &Places<'_>,
     threads: usize,
-) -> Result<Vec<u8>, AllocError> {
+) -> Result<Vec<u8>, AllocError>
+    ensures { IfOk result (λ text. IsStats book.now (length places.now) text.items) }
+{
     let counted = Counted::of(rt, alloc, book.classes(), book.listed(), threads)?;
     let mut text = Vec::new(alloc);
     write_figure(&mut text, "files", places.count())?;
-    write_counted(&mut text, book, &counted)?;
+    write_traces(&mut text, book)?;
+    write_events(&mut text, book, &counted.verbs)?;
+    write_classes(&mut text, book)?;
+    write_dependencies(&mut text, book, counted.chain_count(), counted.depth)?;
     write_components(alloc, &mut text, book)?;
     write_violations(alloc, &mut text, book)?;
     Ok(text)
 }
 
-/// Writes what is counted of the traces of a book, and how many classes and dependencies they show.
-fn write_counted(text: &mut Vec<u8>, book: &Book<'_>, counted: &Counted) -> Result<(), AllocError> {
+/// Writes how many traces there are, and how many are rejected for each fault.
+fn write_traces(text: &mut Vec<u8>, book: &Book<'_>) -> Result<(), AllocError>
+    ensures { OnOk result (text.new.items ≡ text.old.items ++ figure_lines (of_traces book.now)) }
+{
     let totals = book.totals();
-    write_traces(text, &totals, book.listed())?;
-    write_events(text, &totals, &counted.verbs)?;
-    write_classes(text, book)?;
-    write_figures(
-        text,
-        &[
-            ("dependencies", totals.dependencies),
-            ("chains", counted.chain_count()),
-            ("depth", counted.depth),
-        ],
-    )
-}
-
-/// Writes `NAME FIGURE`.
-fn write_figure(text: &mut Vec<u8>, name: &str, figure: u64) -> Result<(), AllocError> {
-    writeln!(text, "{name} {figure}").map_err(|_| AllocError)
-}
-
-/// Writes some figures, each behind its name.
-fn write_figures(text: &mut Vec<u8>, figures: &[(&str, u64)]) -> Result<(), AllocError> {
-    for (name, figure) in figures {
-        write_figure(text, name, *figure)?;
-    }
-    Ok(())
-}
-
-/// Writes `GROUP-NAME FIGURE`.
-fn write_part(text: &mut Vec<u8>, group: &str, name: &str, figure: u64) -> Result<(), AllocError> {
-    writeln!(text, "{group}-{name} {figure}").map_err(|_| AllocError)
-}
-
-/// Writes how many traces there are, and how many of them are refused by each fault.
-fn write_traces(
-    text: &mut Vec<u8>,
-    totals: &Totals,
-    listed: &[Listed<'_>],
-) -> Result<(), AllocError> {
     write_figure(text, "traces", totals.traces)?;
     write_figure(text, "refused", totals.refused)?;
-    let counts = fault_counts(listed);
-    for (fault, count) in FAULTS.iter().zip(&counts) {
-        write_part(text, "refused", fault.name(), *count)?;
+    write_refused(text, book.listed(), &FAULTS)
+}
+
+/// Writes how many traces are rejected for each of these faults.
+fn write_refused(
+    text: &mut Vec<u8>,
+    listed: &[Listed<'_>],
+    faults: &[TraceFault],
+) -> Result<(), AllocError>
+    ensures { OnOk result (text.new.items ≡ text.old.items ++ figure_lines (map (λ fault.
+        (codes "refused-" ++ name_of fault, length (filter (λ trace. is_refused_for (name_of fault) trace.outcome) listed.now)))
+        faults.now)) }
+{
+    for fault in faults {
+        let name = fault.name();
+        write_prefixed(text, "refused-", name, refused_for(listed, name))?;
     }
     Ok(())
 }
 
-/// How many traces are refused by each fault, in their order.
-fn fault_counts(listed: &[Listed<'_>]) -> [u64; FAULTS.len()] {
-    let mut counts: [u64; FAULTS.len()] = [0; FAULTS.len()];
-    for trace in listed {
-        if let Outcome::Refused { fault, .. } = trace.outcome {
-            for (other, count) in FAULTS.iter().zip(counts.iter_mut()) {
-                if *other == fault {
-                    *count = count.saturating_add(1);
-                }
-            }
-        }
-    }
-    counts
+/// How many traces are rejected for the fault of this name.
+fn refused_for(listed: &[Listed<'_>], name: &str) -> u64
+    ensures { result ≡ length (filter (λ trace. is_refused_for name.now trace.outcome) listed.now) }
+{
+    listed
+        .iter()
+        .filter(|trace| is_refused_for(trace.outcome, name))
+        .count() as u64
 }
 
-/// Writes how many events the traces have that are read, and how many of each verb.
-fn write_events(text: &mut Vec<u8>, totals: &Totals, verbs: &Verbs) -> Result<(), AllocError> {
+/// Whether a trace is rejected for the fault of this name.
+fn is_refused_for(outcome: Outcome, name: &str) -> bool
+    ensures { result ≡ is_refused_for name.now outcome }
+{
+    match outcome {
+        Outcome::Read { .. } => false,
+        Outcome::Refused { fault, .. } => fault.name() == name,
+    }
+}
+
+/// Writes how many events the accepted traces have, and how many of each verb.
+fn write_events(text: &mut Vec<u8>, book: &Book<'_>, verbs: &Verbs) -> Result<(), AllocError>
+    ensures { OnOk result (text.new.items ≡ text.old.items ++ figure_lines (of_events book.now verbs.now)) }
+{
     write_figures(
         text,
         &[
-            ("events", totals.events),
+            ("events", book.totals().events),
             ("events-acquire", verbs.acquire),
             ("events-nested", verbs.nested),
             ("events-try", verbs.tries),
@@ -132,97 +126,96 @@ fn write_events(text: &mut Vec<u8>, totals: &Totals, verbs: &Verbs) -> Result<()
 }
 
 /// Writes how many classes there are, how many of them are subclasses, and how many have each usage bit.
-fn write_classes(text: &mut Vec<u8>, book: &Book<'_>) -> Result<(), AllocError> {
+fn write_classes(text: &mut Vec<u8>, book: &Book<'_>) -> Result<(), AllocError>
+    ensures { OnOk result (text.new.items ≡ text.old.items ++ figure_lines (of_classes book.now)) }
+{
     let classes = book.classes();
-    write_figure(text, "classes", classes.len() as u64)?;
-    let subclasses = (0..classes.len() as u32).filter(|number| classes.name(*number).sub != 0);
-    write_figure(text, "subclasses", subclasses.count() as u64)?;
-    for bit in 0..BITS.len() {
-        let used = book
-            .usage_rows()
-            .iter()
-            .filter(|row| row.first[bit].is_some());
-        write_part(text, "classes", BITS[bit], used.count() as u64)?;
-    }
-    Ok(())
-}
-
-/// Writes how many cyclic components there are, and how many of each number of classes.
-fn write_components(alloc: Global, text: &mut Vec<u8>, book: &Book<'_>) -> Result<(), AllocError> {
-    let sizes = cyclic_sizes(alloc, book)?;
-    write_figure(text, "cyclic-components", sizes.len() as u64)?;
-    let mut left = sizes.as_slice();
-    // Those of one number of classes stand together.
-    for _ in 0..sizes.len() {
-        let Some(size) = left.first().copied() else {
-            break;
-        };
-        let count = left.iter().take_while(|other| **other == size).count();
-        writeln!(text, "cyclic-components-of-{size} {count}").map_err(|_| AllocError)?;
-        left = left.get(count..).unwrap_or(&[]);
-    }
-    Ok(())
-}
-
-/// How many classes each component has that has a cycle, the least first.
-fn cyclic_sizes(alloc: Global, book: &Book<'_>) -> Result<Vec<u32>, AllocError> {
-    let components = components(alloc, book)?;
-    let mut sizes: Vec<u32> = vec![in alloc; 0; components.of.len()]?;
-    for part in &components.of {
-        if let Some(size) = sizes.get_mut(*part as usize) {
-            *size = size.saturating_add(1);
-        }
-    }
-    let mut cyclic = Vec::new(alloc);
-    for edge in &components.edges {
-        if edge.from == edge.to {
-            // Taken, so that it isn't told again.
-            if let Some(size) = sizes.get_mut(edge.from as usize) {
-                if *size > 0 {
-                    cyclic.push(*size)?;
-                    *size = 0;
-                }
-            }
-        }
-    }
-    cyclic.sort_unstable();
-    Ok(cyclic)
-}
-
-/// Writes how many violations a book has, and how many of each kind.
-fn write_violations(alloc: Global, text: &mut Vec<u8>, book: &Book<'_>) -> Result<(), AllocError> {
-    let findings = book.findings(alloc)?;
-    write_found(text, &findings)
-}
-
-/// Writes how many violations were found, and how many of each kind.
-fn write_found(text: &mut Vec<u8>, findings: &Findings<'_, '_>) -> Result<(), AllocError> {
-    let cycles = findings.cycles.items();
-    let conflicts = findings.conflicts.items();
-    let hard_walks = findings.forbidden.hard.len() as u64;
-    let soft_walks = findings.forbidden.soft.len() as u64;
-    let recursions = cycles.iter().filter(|row| row.from == row.to).count();
-    let hard = conflicts
-        .iter()
-        .filter(|row| row.state == State::Hard)
-        .count();
-    let all = (cycles.len() as u64)
-        .saturating_add(conflicts.len() as u64)
-        .saturating_add(hard_walks)
-        .saturating_add(soft_walks);
+    let usage = book.usage_rows();
     write_figures(
         text,
         &[
-            ("violations", all),
-            ("recursions", recursions as u64),
-            ("inversions", cycles.len().saturating_sub(recursions) as u64),
-            ("conflicts-hard", hard as u64),
-            (
-                "conflicts-soft",
-                conflicts.len().saturating_sub(hard) as u64,
-            ),
-            ("forbidden-hard", hard_walks),
-            ("forbidden-soft", soft_walks),
+            ("classes", classes.len() as u64),
+            ("subclasses", subclasses(classes)),
+            ("classes-in-hard", classes_with(usage, 0)),
+            ("classes-on-hard", classes_with(usage, 1)),
+            ("classes-in-soft", classes_with(usage, 2)),
+            ("classes-on-soft", classes_with(usage, 3)),
         ],
     )
+}
+
+/// How many of these are subclasses.
+fn subclasses(classes: &Classes<'_>) -> u64
+    ensures { result ≡ length (filter (λ class. not (class.sub == 0)) classes.now) }
+{
+    let mut count = 0;
+    for number in 0..classes.len() as u32 {
+        if classes.name(number).sub != 0 {
+            count += 1;
+        }
+    }
+    count
+}
+
+/// How many rows have the usage bit at this place of a row.
+fn classes_with(rows: &[UsageRow], bit: usize) -> u64
+    requires { bit < 4 }
+    ensures { result ≡ length (filter (λ row. is_some (slice_index_or row.first bit None)) rows.now) }
+{
+    rows.iter().filter(|row| row.first[bit].is_some()).count() as u64
+}
+
+/// Writes how many dependencies and chains there are, and how many locks a task holds at most.
+fn write_dependencies(
+    text: &mut Vec<u8>,
+    book: &Book<'_>,
+    chains: u64,
+    depth: u64,
+) -> Result<(), AllocError>
+    ensures { OnOk result (text.new.items ≡ text.old.items ++ figure_lines (of_dependencies book.now chains depth)) }
+{
+    write_figures(
+        text,
+        &[
+            ("dependencies", book.totals().dependencies),
+            ("chains", chains),
+            ("depth", depth),
+        ],
+    )
+}
+
+/// Writes how many cyclic components there are, and how many of each number of classes.
+fn write_components(alloc: Global, text: &mut Vec<u8>, book: &Book<'_>) -> Result<(), AllocError>
+    ensures { OnOk result ((cyclic : ℕ) × ((parts : List SizeCount) ×
+        (text.new.items ≡ text.old.items ++ figure_lines (of_components cyclic parts)))) }
+{
+    let sizes = cyclic_sizes(alloc, book)?;
+    let parts = by_size(alloc, &sizes)?;
+    write_by_size(text, sizes.len() as u64, &parts)
+}
+
+/// Writes how many cyclic components there are, and how many of each of these sizes.
+fn write_by_size(text: &mut Vec<u8>, cyclic: u64, parts: &[SizeCount]) -> Result<(), AllocError>
+    ensures { OnOk result (text.new.items ≡ text.old.items ++ figure_lines (of_components cyclic parts.now)) }
+{
+    write_figure(text, "cyclic-components", cyclic)?;
+    write_sizes(text, "cyclic-components-of-", parts)
+}
+
+/// Writes a line for each size: the prefix and the size, then how many there are.
+fn write_sizes(text: &mut Vec<u8>, prefix: &str, parts: &[SizeCount]) -> Result<(), AllocError>
+    ensures { OnOk result (text.new.items ≡ text.old.items
+        ++ figure_lines (map (λ part. (prefix.now ++ decimal part.classes, part.count)) parts.now)) }
+{
+    for part in parts {
+        write_size(text, prefix, part.classes, part.count)?;
+    }
+    Ok(())
+}
+
+/// Writes the line of one size.
+fn write_size(text: &mut Vec<u8>, prefix: &str, size: u32, count: u64) -> Result<(), AllocError>
+    ensures { OnOk result (text.new.items ≡ text.old.items ++ figure_line (prefix.now ++ decimal size, count)) }
+{
+    writeln!(text, "{prefix}{size} {count}").map_err(|_| AllocError)
 }

@@ -1,6 +1,8 @@
 //! What is asked of a book, and the text that answers it.
-ghost use Rattle.std.specs.Prelude.{◌≡◌, IfOk};
+ghost use Rattle.std.specs.Prelude.{◌≡◌, IfOk, length};
 ghost use Rattle.ld_texts.specs.List.{IsClassList, every_class, list_classes};
+ghost use Rattle.ld_texts.specs.Stats.{IsStats};
+ghost use Rattle.ld_texts.specs.declared.wanted.Wanted.TheVariants.{Stats};
 
 use crate::figures::{Figures, all_figures};
 use crate::list::{class_text, classes_text, dependencies_text};
@@ -16,14 +18,14 @@ use std::thread::Threads;
 pub enum Wanted<'w> {
     /// The list of its classes.
     List(Listing<'w>),
-    /// How much the traces are and show, one figure a line.
+    /// Figures of the traces and of what they show, one a line.
     Stats,
 }
 
 /// What is listed.
 #[derive(Clone, Copy, Debug, PartialEq, Eq)]
 pub enum Listing<'w> {
-    /// Every class, in the order of a report.
+    /// Every class, in the order of a report, but `L!read` right behind `L`.
     Classes,
     /// Every class, and under each the dependencies that begin with it.
     Dependencies,
@@ -45,6 +47,8 @@ pub fn text_of<R: Threads + Sync>(
     threads: usize,
 ) -> Result<Vec<u8>, AllocError>
     ensures classes { wanted.entry ≡ list_classes → IfOk result (λ text. IsClassList book.now text.items) }
+    ensures stats { wanted.entry ≡ Stats → IfOk result (λ text.
+        IsStats book.now (length places.now.files.now) text.items) }
 {
     match wanted {
         Wanted::List(listing) => list_of(rt, alloc, book, places, listing, threads),

@@ -1,6 +1,7 @@
-//! Writes names and places. Each call answers `AllocError` where memory was refused.
-ghost use Rattle.std.specs.Prelude.{◌≡◌, ◌++◌, OnOk};
+//! Writes names, places, usage characters and figures. Each call that writes answers `AllocError` where memory was refused.
+ghost use Rattle.std.specs.Prelude.{◌≡◌, ◌++◌, OnOk, map};
 ghost use Rattle.ld_texts.specs.List.{marks_text};
+ghost use Rattle.ld_texts.specs.Stats.{figure_line, figure_lines};
 
 use ld_escape::write_on_line;
 use ld_overview::{Book, ClassName, Traces, UsageRow, Witness};
@@ -76,4 +77,38 @@ pub(crate) fn write_at(
     let (file, line) = seen.place(at.line);
     write_on_line(text, file.as_bytes())?;
     write!(text, ":{line}").map_err(|_| AllocError)
+}
+
+/// Writes `NAME FIGURE`.
+pub(crate) fn write_figure(text: &mut Vec<u8>, name: &str, figure: u64) -> Result<(), AllocError>
+    ensures { OnOk result (text.new.items ≡ text.old.items ++ figure_line (name.now, figure)) }
+{
+    writeln!(text, "{name} {figure}").map_err(|_| AllocError)
+}
+
+/// Writes a line for each name and its figure.
+pub(crate) fn write_figures(
+    text: &mut Vec<u8>,
+    figures: &[(&str, u64)],
+) -> Result<(), AllocError>
+    ensures { OnOk result (text.new.items ≡ text.old.items
+        ++ figure_lines (map (λ figure. (figure.0.now, figure.1)) figures.now)) }
+{
+    for figure in figures {
+        write_figure(text, figure.0, figure.1)?;
+    }
+    Ok(())
+}
+
+/// Writes a figure whose name is a prefix and a name, as `refused-BadVerb 1`.
+pub(crate) fn write_prefixed(
+    text: &mut Vec<u8>,
+    prefix: &str,
+    name: &str,
+    figure: u64,
+) -> Result<(), AllocError>
+    ensures { OnOk result (text.new.items ≡ text.old.items
+        ++ figure_line (prefix.now ++ name.now, figure)) }
+{
+    writeln!(text, "{prefix}{name} {figure}").map_err(|_| AllocError)
 }

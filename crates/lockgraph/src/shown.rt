@@ -1,9 +1,13 @@
 //! What `list` and `stats` have in common: a text on the traces of some files.
-ghost use Rattle.std.specs.Prelude.{◌≡◌, ◌≢◌, ◌≤◌, Err, IfOk, IfSome, Some};
+ghost use Rattle.std.specs.Prelude.{◌≡◌, ◌≢◌, ◌≤◌, Err, IfOk, IfSome, Some, length};
 ghost use Rattle.ld_check.specs.OfReport.OfBook.Totals.{refused_count};
 ghost use Rattle.ld_trace.specs.declared.source.StreamFault.{StreamFault};
 ghost use Rattle.ld_trace.specs.Sources.{stream_fault};
 ghost use Rattle.ld_files.specs.declared.fault.Fault.TheVariants.{Together, Write};
+ghost use Rattle.ld_texts.specs.List.{IsClassList, list_classes};
+ghost use Rattle.ld_texts.specs.Stats.{IsStats};
+ghost use Rattle.ld_texts.specs.declared.wanted.Wanted.TheVariants.{Stats};
+ghost use Rattle.lockgraph.specs.declared.shown.Topic.TheVariants.{Whole};
 ghost use Rattle.lockgraph.specs.Shown.{verdict_of_read};
 
 use crate::occurrences::occurrences_in;
@@ -87,6 +91,10 @@ fn shown_in<'f, R: Threads + Sync>(
     threads: usize,
 ) -> Result<Told, Fault<'f>>
     ensures verdict { IfOk result (λ told. told.verdict ≡ verdict_of_read (refused_count checked.now.book)) }
+    ensures classes { topic.entry ≡ Whole list_classes → IfOk result (λ told.
+        IsClassList checked.now.book told.text.items) }
+    ensures stats { topic.entry ≡ Whole Stats → IfOk result (λ told.
+        IsStats checked.now.book (length places.now) told.text.items) }
     ensures unwritten { result ≢ Err Write }
     ensures sound { (fault : StreamFault) → result ≢ Err (Together fault) }
 {
@@ -111,6 +119,9 @@ fn whole_text<'f, R: Threads + Sync>(
     wanted: Wanted<'_>,
     threads: usize,
 ) -> Result<Vec<u8>, Fault<'f>>
+    ensures classes { wanted.entry ≡ list_classes → IfOk result (λ text. IsClassList book.now text.items) }
+    ensures stats { wanted.entry ≡ Stats → IfOk result (λ text.
+        IsStats book.now (length shown.now.files.now) text.items) }
     ensures unwritten { result ≢ Err Write }
     ensures sound { (fault : StreamFault) → result ≢ Err (Together fault) }
 {
