@@ -60,9 +60,9 @@ pub count-listed : (name : List ℕ) (listed : List Listed) → All (λ trace. t
 count-listed name [] each = refl
 count-listed name (trace ∷ listed) each =
     ap (λ outcome. length (if is_refused_for name outcome then trace ∷ filter (λ other. is_refused_for name other.outcome) listed
-      else filter (λ other. is_refused_for name other.outcome) listed)) (All-head (λ other. other.outcome ≡ outcome (plain other.source)) trace listed each)
+    else filter (λ other. is_refused_for name other.outcome) listed)) (All-head (λ other. other.outcome ≡ outcome (plain other.source)) trace listed each)
     ∙ one (is_refused_for name (outcome (plain trace.source)))
-      (count-listed name listed (All-tail (λ other. other.outcome ≡ outcome (plain other.source)) trace listed each))
+    (count-listed name listed (All-tail (λ other. other.outcome ≡ outcome (plain other.source)) trace listed each))
   where
     listed_so : List Listed
     listed_so = filter (λ other. is_refused_for name other.outcome) listed
@@ -71,6 +71,6 @@ count-listed name (trace ∷ listed) each =
     sources_so = filter (λ source. is_refused_for name (outcome source)) (map (λ other. plain other.source) listed)
 
     one : (is : Bool) → length listed_so ≡ length sources_so
-      → length (if is then trace ∷ listed_so else listed_so) ≡ length (if is then plain trace.source ∷ sources_so else sources_so)
+        → length (if is then trace ∷ listed_so else listed_so) ≡ length (if is then plain trace.source ∷ sources_so else sources_so)
     one true rest = omega (arith, rest)
     one false rest = rest

@@ -129,7 +129,7 @@ pub record IsStats (sources : List PlainSource) (files : ℕ) (text : List ℕ) 
   pub found : PlainFindings
   pub are : AreFindings sources found
   pub lines :
-    text ≡ figure_lines ((codes "files", files)
+      text ≡ figure_lines ((codes "files", files)
       ∷ of_traces sources
       ++ of_events sources verbs
       ++ of_classes sources

@@ -87,10 +87,7 @@ pub(crate) fn write_figure(text: &mut Vec<u8>, name: &str, figure: u64) -> Resul
 }
 
 /// Writes a line for each name and its figure.
-pub(crate) fn write_figures(
-    text: &mut Vec<u8>,
-    figures: &[(&str, u64)],
-) -> Result<(), AllocError>
+pub(crate) fn write_figures(text: &mut Vec<u8>, figures: &[(&str, u64)]) -> Result<(), AllocError>
     ensures { OnOk result (text.new.items ≡ text.old.items
         ++ figure_lines (map (λ figure. (figure.0.now, figure.1)) figures.now)) }
 {

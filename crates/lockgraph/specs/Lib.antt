@@ -3,3 +3,4 @@ pub mod Groups
 pub mod Shown
 pub mod Faults
 pub mod News
+pub mod Json

@@ -1,11 +1,12 @@
 //! What `json` and the formats of other programs have in common: rows of some traces, and a text of them.
-ghost use Rattle.std.specs.Prelude.{◌≡◌, ◌≢◌, ◌≤◌, Err, IfOk, IfSome};
+ghost use Rattle.std.specs.Prelude.{◌≡◌, ◌≢◌, ◌≤◌, Err, IfOk, IfSome, None};
 ghost use Rattle.ld_trace.specs.Sources.{sources, stream_fault};
 ghost use Rattle.ld_check.specs.OfReport.Verdict.{VerdictIs};
 ghost use Rattle.ld_json.specs.Json.{json_text};
 ghost use Rattle.ld_files.specs.declared.fault.Fault.TheVariants.{Together};
 ghost use Rattle.ld_trace.specs.declared.source.StreamFault.{StreamFault};
 ghost use Rattle.lockgraph.specs.declared.rows.Form.TheVariants.{Json};
+ghost use Rattle.lockgraph.specs.Json.{IsJsonOf};
 ghost use Rattle.lockgraph.specs.News.{ComesToNew};
 
 use crate::news::{NewsFault, fault_of_news, verdict_of_new};
@@ -189,6 +190,8 @@ fn rows_told_in<'a, R: Files>(
     way: Way<'_>,
 ) -> Result<Told, Fault<'a>>
     ensures verdict { IfOk result (λ told. VerdictIs checked.now.book told.verdict) }
+    ensures json { way.entry.form ≡ Json → way.entry.most ≡ 0 → IfOk result (λ told.
+        IsJsonOf checked.now.book told.text.items) }
 {
     let report = report_in(alloc, &checked.book)?;
     let text = text_in(rt, alloc, checked, &report, None, places, maps, way)?;
@@ -263,43 +266,110 @@ fn text_in<R: Files>(
     places: &Places<'_>,
     maps: &Maps<'_>,
     way: Way<'_>,
-) -> Result<Vec<u8>, AllocError> {
+) -> Result<Vec<u8>, AllocError>
+    ensures json { way.entry.form ≡ Json → way.entry.most ≡ 0 → new.entry ≡ None → IfOk result (λ text.
+        IsJsonOf checked.now.book text.items) }
+{
     let paths = FilePaths::of(alloc, &checked.sources)?;
-    let part = Part {
-        new,
-        most: way.most,
-    };
     // Lent again, since the paths of files live for a shorter time.
     text_by(
-        rt, alloc, &*checked, &*report, &part, &*places, &paths, maps, way.form,
+        rt, alloc, &*checked, &*report, new, &*places, &paths, maps, way,
     )
 }
 
-/// The same with the paths of files, of a part of the report.
+/// The same with the paths of files.
 fn text_by<'s, R: Files>(
     rt: &R,
     alloc: Global,
     checked: &'s Checked<'s>,
     report: &'s [u8],
-    part: &Part<'_>,
+    new: Option<&[u8]>,
     places: &'s Places<'s>,
+    paths: &'s FilePaths<'s>,
+    maps: &Maps<'_>,
+    way: Way<'_>,
+) -> Result<Vec<u8>, AllocError>
+    ensures json { way.entry.form ≡ Json → way.entry.most ≡ 0 → new.entry ≡ None → IfOk result (λ text.
+        IsJsonOf checked.now.book text.items) }
+{
+    let shown = ShownPlaces {
+        files: places,
+        sources: checked.sources.as_slice(),
+    };
+    match new {
+        None if way.most == 0 => {
+            text_of_whole(rt, alloc, checked, report, &shown, paths, maps, way.form)
+        }
+        _ => {
+            let part = Part {
+                new,
+                most: way.most,
+            };
+            text_of_part(
+                rt, alloc, checked, report, &part, &shown, paths, maps, way.form,
+            )
+        }
+    }
+}
+
+/// The text on all that this report says.
+fn text_of_whole<'s, R: Files>(
+    rt: &R,
+    alloc: Global,
+    checked: &'s Checked<'s>,
+    report: &'s [u8],
+    shown: &ShownPlaces<'s>,
+    paths: &'s FilePaths<'s>,
+    maps: &Maps<'_>,
+    form: Form<'_>,
+) -> Result<Vec<u8>, AllocError>
+    ensures json { form.entry ≡ Json → IfOk result (λ text. IsJsonOf checked.now.book text.items) }
+{
+    let sources = checked.sources.as_slice();
+    let all = form.has_all();
+    let rows = rows_of(
+        alloc,
+        &checked.book,
+        report,
+        sources,
+        shown,
+        paths,
+        maps,
+        all,
+    )?;
+    let text = text_of_rows(rt, alloc, &rows, form)?;
+    drop(rows);
+    Ok(text)
+}
+
+/// The text on a part of what this report says.
+fn text_of_part<'s, R: Files>(
+    rt: &R,
+    alloc: Global,
+    checked: &'s Checked<'s>,
+    report: &'s [u8],
+    part: &Part<'_>,
+    shown: &ShownPlaces<'s>,
     paths: &'s FilePaths<'s>,
     maps: &Maps<'_>,
     form: Form<'_>,
 ) -> Result<Vec<u8>, AllocError> {
     let sources = checked.sources.as_slice();
-    let shown = ShownPlaces {
-        files: places,
-        sources,
-    };
-    let book = &checked.book;
     let all = form.has_all();
-    let rows = if part.is_whole() {
-        rows_of(alloc, book, report, sources, &shown, paths, maps, all)?
-    } else {
-        rows_of_part(alloc, book, report, part, sources, &shown, paths, maps, all)?
-    };
-    text_of_rows(rt, alloc, &rows, form)
+    let rows = rows_of_part(
+        alloc,
+        &checked.book,
+        report,
+        part,
+        sources,
+        shown,
+        paths,
+        maps,
+        all,
+    )?;
+    let text = text_of_rows(rt, alloc, &rows, form)?;
+    drop(rows);
+    Ok(text)
 }
 
 /// The text of rows in a form.

@@ -14,14 +14,14 @@ returns g c =
     let violations = c.in_ok-write_violations.ensures in
     let figures = of_components components.0 components.1.0 ++ of_violations violations.0 in
     let first : c.write_figure.new.text.items ≡ figure_line (codes "files", length c.args.places.now) =
-      c.in_ok-write_figure.ensures ∙ (λ t. c.new-text.ensures.items t ++ figure_line (codes "files", c.count.ensures t)) in
+    c.in_ok-write_figure.ensures ∙ (λ t. c.new-text.ensures.items t ++ figure_line (codes "files", c.count.ensures t)) in
     let last : c.write_violations.new.text.items ≡ c.write_figure.new.text.items
-      ++ figure_lines (of_traces sources ++ of_events sources verbs ++ of_classes sources ++ of_dependencies sources chains depth ++ figures) =
-      behind _ _ _ (of_traces sources) (of_events sources verbs ++ of_classes sources ++ of_dependencies sources chains depth ++ figures) c.in_ok-write_traces.ensures
-      (behind _ _ _ (of_events sources verbs) (of_classes sources ++ of_dependencies sources chains depth ++ figures) c.in_ok-write_events.ensures
-        (behind _ _ _ (of_classes sources) (of_dependencies sources chains depth ++ figures) c.in_ok-write_classes.ensures
-          (behind _ _ _ (of_dependencies sources chains depth) figures c.in_ok-write_dependencies.ensures
-            (behind _ _ _ (of_components components.0 components.1.0) (of_violations violations.0) components.1.1 violations.1.1)))) in
+    ++ figure_lines (of_traces sources ++ of_events sources verbs ++ of_classes sources ++ of_dependencies sources chains depth ++ figures) =
+    behind _ _ _ (of_traces sources) (of_events sources verbs ++ of_classes sources ++ of_dependencies sources chains depth ++ figures) c.in_ok-write_traces.ensures
+    (behind _ _ _ (of_events sources verbs) (of_classes sources ++ of_dependencies sources chains depth ++ figures) c.in_ok-write_events.ensures
+    (behind _ _ _ (of_classes sources) (of_dependencies sources chains depth ++ figures) c.in_ok-write_classes.ensures
+    (behind _ _ _ (of_dependencies sources chains depth) figures c.in_ok-write_dependencies.ensures
+    (behind _ _ _ (of_components components.0 components.1.0) (of_violations violations.0) components.1.1 violations.1.1)))) in
     record {
       verbs = verbs;
       chains = chains;

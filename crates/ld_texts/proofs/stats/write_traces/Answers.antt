@@ -13,10 +13,10 @@ returns c =
     let traces : c.totals-totals.result.traces ≡ length sources = ap (λ totals. totals.traces) c.totals-totals.ensures.totals in
     let refused : c.totals-totals.result.refused ≡ refused_count sources = ap (λ totals. totals.refused) c.totals-totals.ensures.totals in
     let of : (fault : TraceFault) → length (filter (λ trace. is_refused_for (name_of fault) trace.outcome) c.listed.result.now) ≡ refused_for sources fault =
-      λ fault. count-listed (name_of fault) c.listed.result.now c.listed.ensures.outcomes
-      ∙ ap (λ sources. length (filter (λ source. is_refused_for (name_of fault) (outcome source)) sources)) c.listed.ensures.sources in
+    λ fault. count-listed (name_of fault) c.listed.result.now c.listed.ensures.outcomes
+    ∙ ap (λ sources. length (filter (λ source. is_refused_for (name_of fault) (outcome source)) sources)) c.listed.ensures.sources in
     subst (λ text. OnOk c.write_refused.result (c.write_refused.new.text.items ≡ c.args.text.now.items ++ text))
     (λ t. figure_line (codes "traces", traces t) ++ (figure_line (codes "refused", refused t)
-      ++ figure_lines (map (λ fault. (codes "refused-" ++ name_of fault, of fault t)) every_fault)))
+    ++ figure_lines (map (λ fault. (codes "refused-" ++ name_of fault, of fault t)) every_fault)))
     (joined c.write_refused.result c.args.text.now.items _ _ _ _ c.in_ok-write_figure.ensures
-      (joined c.write_refused.result c.write_figure.new.text.items _ _ _ _ c.in_ok-write_figure-2.ensures c.write_refused.ensures))
+    (joined c.write_refused.result c.write_figure.new.text.items _ _ _ _ c.in_ok-write_figure-2.ensures c.write_refused.ensures))
