@@ -4,7 +4,7 @@ import os
 import re
 
 from crates import read
-from edits import Wrong, functions_of
+from functions import Wrong, functions_of
 
 FOLDER = "must-fail-tests"
 # What the commands begin with that `fails:` names besides tests.

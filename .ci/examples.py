@@ -13,7 +13,7 @@ from concurrent.futures import ThreadPoolExecutor
 
 from bodies import blamed, sources
 from crates import LISTED, below, write
-from edits import Wrong
+from functions import Wrong
 from tries import tried
 
 PROGRAM = "lockgraph"

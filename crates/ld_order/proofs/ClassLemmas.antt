@@ -370,3 +370,9 @@ ring_some o k h = k.ring (grind (arith, k.none, h))
 pub ring_of : (o : Inside) → IsKept o → (c : ℕ) → c < length (ranks_of o.labels.items)
     → IsRing o.labels.items o.next.items o.prev.items
 ring_of o k c h = ring_some o k (λ e. let n = ranks_len o.labels.items in omega (arith, h, n, e))
+
+-- the lists of a ring, as terms of a proof have them
+pub same_ring : {labels next prev labels' next' prev' : List ℕ} → labels' ≡ labels → next' ≡ next → prev' ≡ prev
+    → IsRing labels next prev → IsRing labels' next' prev'
+same_ring {labels} {next} {prev} {labels'} {next'} {prev'} l n p r =
+    subst (λ z. IsRing z next' prev') (sym l) (subst (λ z. IsRing labels z prev') (sym n) (subst (IsRing labels next) (sym p) r))

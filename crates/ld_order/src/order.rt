@@ -1,6 +1,6 @@
 //! The order itself.
 
-ghost use Rattle.std.specs.Prelude.{◌≡◌, ◌↔◌, ◌+◌, ◌<◌, ◌≤◌, ◌++◌, ◌∷◌, [], ℕ, length, slice_index, IsTrue, OnOk, Contains, nat_eq};
+ghost use Rattle.std.specs.Prelude.{◌≡◌, ◌↔◌, ◌+◌, ◌<◌, ◌≤◌, ◌++◌, ◌∷◌, [], ℕ, length, slice_index, vec_capacity, IsTrue, OnOk, Contains, nat_eq};
 ghost use Rattle.std.specs.List.{IsDistinct};
 ghost use Rattle.ld_order.specs.Orders.{AreInOrder, AreRanks, HaveMoved};
 
@@ -78,14 +78,13 @@ impl Order {
         if classes <= self.room {
             return Ok(());
         }
-        self.labels.reserve(classes + 1 - self.labels.len())?;
-        self.next.reserve(classes + 1 - self.next.len())?;
-        self.prev.reserve(classes + 1 - self.prev.len())?;
-        self.pool.clear();
-        self.pool.reserve(classes)?;
-        self.sorted.clear();
-        self.sorted.reserve(classes)?;
-        self.ranks.reserve(classes - self.ranks.len())?;
+        reserve_nodes(
+            &mut self.labels,
+            &mut self.next,
+            &mut self.prev,
+            classes + 1,
+        )?;
+        reserve_space(&mut self.pool, &mut self.sorted, &mut self.ranks, classes)?;
         begin(&mut self.labels, &mut self.next, &mut self.prev);
         self.room = classes;
         Ok(())
@@ -184,4 +183,50 @@ impl Order {
         fill(&self.labels, &self.next, &self.prev, &mut self.ranks);
         &self.ranks
     }
+}
+
+/// Takes the memory for so many nodes in all.
+fn reserve_nodes(
+    labels: &mut Vec<u64>,
+    next: &mut Vec<u32>,
+    prev: &mut Vec<u32>,
+    count: usize,
+) -> Result<(), AllocError>
+    requires fits { length labels.old.items ≤ count }
+    requires next_len { length next.old.items ≡ length labels.old.items }
+    requires prev_len { length prev.old.items ≡ length labels.old.items }
+    ensures labels { labels.new.items ≡ labels.old.items }
+    ensures next { next.new.items ≡ next.old.items }
+    ensures prev { prev.new.items ≡ prev.old.items }
+    ensures labels_kept { vec_capacity labels.old ≤ vec_capacity labels.new }
+    ensures next_kept { vec_capacity next.old ≤ vec_capacity next.new }
+    ensures prev_kept { vec_capacity prev.old ≤ vec_capacity prev.new }
+    ensures room { OnOk result ((count ≤ vec_capacity labels.new)
+        × ((count ≤ vec_capacity next.new) × (count ≤ vec_capacity prev.new))) }
+{
+    labels.reserve(count - labels.len())?;
+    next.reserve(count - next.len())?;
+    prev.reserve(count - prev.len())
+}
+
+/// Takes the memory for the moves of so many classes, and for their ranks.
+fn reserve_space(
+    pool: &mut Vec<Labelled>,
+    sorted: &mut Vec<u32>,
+    ranks: &mut Vec<u32>,
+    count: usize,
+) -> Result<(), AllocError>
+    requires fits { length ranks.old.items ≤ count }
+    ensures ranks { length ranks.new.items ≡ length ranks.old.items }
+    ensures pool_kept { vec_capacity pool.old ≤ vec_capacity pool.new }
+    ensures sorted_kept { vec_capacity sorted.old ≤ vec_capacity sorted.new }
+    ensures ranks_kept { vec_capacity ranks.old ≤ vec_capacity ranks.new }
+    ensures room { OnOk result ((count ≤ vec_capacity pool.new)
+        × ((count ≤ vec_capacity sorted.new) × (count ≤ vec_capacity ranks.new))) }
+{
+    pool.clear();
+    pool.reserve(count)?;
+    sorted.clear();
+    sorted.reserve(count)?;
+    ranks.reserve(count - ranks.len())
 }

@@ -14,11 +14,6 @@ pub struct Part<'w> {
 }
 
 impl Part<'_> {
-    /// Whether it is the whole report.
-    pub fn is_whole(&self) -> bool {
-        self.new.is_none() && self.most == 0
-    }
-
     /// Those of all violations of a report that are asked for, however many may be told. So many traces are rejected.
     pub(crate) fn asked<'r, 'a>(
         &self,

@@ -1,9 +1,18 @@
-use Rattle.std.proofs.Common.{◌≡◌, ◌+◌, ◌<◌, ◌++◌, ◌∙◌, ◌^◌, drop, take, arith, ap, get_or, length, subst, sym}
+use Rattle.std.proofs.Common.{◌+◌, ◌<◌, ◌∙◌, ◌^◌, drop, arith, ap, get_or, length, subst, sym}
 use Rattle.std.proofs.lemmas.List.{take_at}
 use Rattle.ld_order.specs.declared.labels.TheConstants.{STEP}
-use Rattle.ld_order.specs.Inner.Rings.{IsSameOrder}
+use Rattle.ld_order.specs.Inner.Rings.{IsRing, IsSameOrder}
 use Rattle.ld_order.proofs.RankLemmas.{rank-below}
 use Rattle.ld_order.proofs.labels.make_room_at_end.Goals as goal
+
+pub relabel-requires-clause-ring : goal.relabel-requires-clause-ring
+relabel-requires-clause-ring c = subst (λ l. IsRing l c.args.next.now c.args.prev.now) (sym c.deref_mut.ensures.value) c.requires.ring
+
+pub returns-clause-ring : goal.returns-clause-ring
+returns-clause-ring c =
+    subst (λ l. IsRing l c.args.next.now c.args.prev.now)
+    (sym (take_at c.relabel.new.labels (drop (length c.relabel.new.labels) c.args.labels.now.items) _ (c.relabel.ensures.len ∙ c.deref_mut.ensures.len)))
+    c.relabel.ensures.ring
 
 pub returns-clause-order : goal.returns-clause-order
 returns-clause-order c =

@@ -1,4 +1,4 @@
-use Rattle.std.proofs.Common.{◌≡◌, ◌≢◌, ◌+◌, ◌<◌, ◌++◌, ◌∙◌, ℕ, arith, ap, drop, get_or, length, map, sym, subst, Contains}
+use Rattle.std.proofs.Common.{◌≡◌, ◌+◌, ◌<◌, ◌∙◌, ℕ, arith, ap, drop, get_or, length, map, refl, sym, subst, Contains}
 use Rattle.std.specs.List.Sorted.{IsPermutation}
 use Rattle.std.proofs.lemmas.List.{length-map, take_at}
 use Rattle.std.proofs.lemmas.List.Sorted.{length_permutation}
@@ -6,7 +6,7 @@ use Rattle.ld_order.specs.Orders.{HaveMoved}
 use Rattle.ld_order.specs.Inner.Kept.{ranks_of}
 use Rattle.ld_order.specs.Inner.Labels.{node_of}
 use Rattle.ld_order.specs.Inner.Rings.{IsOneOf, IsShifted}
-use Rattle.ld_order.proofs.ClassLemmas.{classes_few, have_moved, node_found, ranks_len}
+use Rattle.ld_order.proofs.ClassLemmas.{classes_few, have_moved, node_found, ranks_len, same_ring}
 use Rattle.ld_order.proofs.moves.move_classes.Goals as goal
 
 pub arrange-requires-clause-apart : goal.arrange-requires-clause-apart
@@ -27,6 +27,10 @@ pub arrange-requires-clause-room : goal.arrange-requires-clause-room
 arrange-requires-clause-room c =
     let f = classes_few c.args.labels.now.items c.args.classes.now c.requires.ring.links.some c.requires.once c.requires.classes in
     omega (arith, f, c.requires.room)
+
+pub shift-requires-clause-ring : goal.shift-requires-clause-ring
+shift-requires-clause-ring c =
+    same_ring c.deref_mut.ensures.value c.deref_mut-2.ensures.value c.deref_mut-3.ensures.value c.requires.ring
 
 pub shift-requires-clause-most : goal.shift-requires-clause-most
 shift-requires-clause-most c =
@@ -64,6 +68,27 @@ shift-requires-clause-apart c = λ k l e.
     let p = subst (IsPermutation (map node_of c.args.classes.now)) (sym c.deref-2.ensures.value) c.arrange.ensures.same in
     let q = node_found c.args.classes.now c.deref-2.result.now p k l in
     c.requires.apart q.0 q.1.0 (ap (λ l. get_or l c.args.at 0) (sym c.deref_mut-2.ensures.value) ∙ e ∙ q.1.1)
+
+pub returns-clause-ring : goal.returns-clause-ring
+returns-clause-ring c =
+    let s = c.shift.new in let e = c.shift.ensures in
+    same_ring
+    (take_at s.labels (drop (length s.labels) c.args.labels.now.items) _ (e.len ∙ c.deref_mut.ensures.len))
+    (take_at s.next (drop (length s.next) c.args.next.now.items) _ (e.links.0 ∙ c.deref_mut-2.ensures.len))
+    (take_at s.prev (drop (length s.prev) c.args.prev.now.items) _ (e.links.1 ∙ c.deref_mut-3.ensures.len))
+    e.ring
+
+pub returns-clause-len : goal.returns-clause-len
+returns-clause-len c =
+    let s = c.shift.new in let e = c.shift.ensures in
+    ap length (take_at s.labels (drop (length s.labels) c.args.labels.now.items) _ (e.len ∙ c.deref_mut.ensures.len))
+    ∙ e.len ∙ ap length c.deref_mut.ensures.value
+
+pub returns-clause-room : goal.returns-clause-room
+returns-clause-room c = (refl, (refl, refl))
+
+pub returns-clause-space : goal.returns-clause-space
+returns-clause-space c = (c.arrange.ensures.pool, c.arrange.ensures.room)
 
 pub returns-clause-moved : goal.returns-clause-moved
 returns-clause-moved c = λ limit place.

@@ -1,9 +1,7 @@
-use Rattle.std.proofs.Common.{◌≡◌, ◌≢◌, ◌⊎◌, inl, inr, ◌+◌, ◌-◌, ◌<◌, ◌∙◌, ℕ, arith, ap, get_or, set, length, refl, get_or-set_other, get_or-set_same}
-use Rattle.std.proofs.lemmas.Bool.{cases_eq}
+use Rattle.std.proofs.Common.{◌+◌, ◌-◌, ◌∙◌, arith, get_or, length, refl}
 use Rattle.std.proofs.lemmas.List.{length-set}
-use Rattle.ld_order.specs.Inner.Rings.{rank}
 use Rattle.ld_order.proofs.ClassLemmas.{filled, past_head, rank-some}
-use Rattle.ld_order.proofs.RankLemmas.{rank-below, rank-head, rank-once, rank-step}
+use Rattle.ld_order.proofs.RankLemmas.{rank-below, rank-head, rank-step}
 use Rattle.ld_order.proofs.ring.fill.Goals as goal
 
 pub loop-place-init : goal.loop-place-init

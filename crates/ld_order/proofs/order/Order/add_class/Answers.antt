@@ -1,4 +1,4 @@
-use Rattle.std.proofs.Common.{◌≡◌, ◌<◌, ◌≤◌, ◌+◌, ◌++◌, ◌∷◌, [], ◌∙◌, max, length, arith, ap, sym, subst, get_or}
+use Rattle.std.proofs.Common.{◌<◌, ◌+◌, ◌++◌, ◌∷◌, [], ◌∙◌, max, length, arith, ap, get_or}
 use Rattle.std.proofs.lemmas.List.{length_push}
 use Rattle.ld_order.specs.declared.labels.TheConstants.{STEP}
 use Rattle.ld_order.specs.declared.ring.TheConstants.{FIRST}
