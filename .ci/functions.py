@@ -10,7 +10,7 @@ from crates import files_below, read, write
 FUNCTION = re.compile(r"( *)(?:pub(?:\([^)]*\))? )?(?:const )?fn (\w+)")
 TYPE = re.compile(r"(?m)^(?:pub(?:\([^)]*\))? )?(?:struct|enum) (\w+)")
 # A type with others for its parameters, as in `impl PerState<Reach>`.
-GIVEN = re.compile(r"impl (\w+)<([A-Z]\w*)>")
+GIVEN = re.compile(r"impl (\w+)<([A-Z]\w*)> {")
 # A `use` of several names, in one line, by which nothing is handed on.
 USE = re.compile(r"((?:ghost )?use [\w:.]+\{)([^{}]*)(?=\};$)")
 # A file of lemmas, and the lemma by which functions are taken as proved: a hole, so nothing is proved by it.
