@@ -31,8 +31,8 @@ RESTS = "it calls `"
 
 
 class Edit:
-    """An edit: the lines that it changes, by file and number, and the functions whose bodies they stand in;
-    none, where it changes something else."""
+    """An edit: the lines that it changes, by file and number, the functions that they stand in, and those whose bodies
+    they stand in; none, where it changes something else."""
 
     def __init__(self, folder, modules, crate, kind, name):
         self.folder, self.modules, self.crate, self.label = folder, modules, crate, f"{crate}/{name}"
@@ -58,7 +58,8 @@ class Edit:
         if not self.changed:
             raise Wrong(f"{self.label}: BAD EDIT: it changes nothing")
         found = [self.function(file, at, new) for (file, at), new in self.changed.items()]
-        self.functions = found if all(found) else []
+        self.touched = [it for it, _ in found] if all(it for it, _ in found) else []
+        self.functions = self.touched if all(is_body for _, is_body in found) else []
 
     def unedited(self, file):
         try:
@@ -70,22 +71,21 @@ class Edit:
         return self.unedited(file).split("\n")
 
     def function(self, file, at, new):
-        """The function whose body has this line, if the line is a body's."""
+        """The function that has this line, and whether the line is its body's; none, if no function has it."""
         was = self.lines(file)[at]
         found = functions_of(f"{self.folder}/{file}") if file.startswith("src/") else []
         for it in found:
             it.file, it.module = file, self.modules.get(it.owner.partition("+")[0])
             if it.has(file, at):
-                is_body = at > it.head or at == it.head and new.startswith(was)
-                return it if is_body else None
+                return it, at > it.head or at == it.head and new.startswith(was)
         # A function more, before the comment of another one.
         added = FUNCTION.match(new)
         if added and was.strip().startswith("///") and new.endswith(was.strip()):
             owner = owner_of(file, block_of(self.lines(file), at, added[1]))
             found = Function(file, added[2], owner, True, (at, at, at))
             found.module, found.is_added = self.modules.get(owner), True
-            return found
-        return None
+            return found, True
+        return None, False
 
     def places(self):
         return {it.place() for it in self.functions}
@@ -127,16 +127,16 @@ def rounds_of(edits):
 def paths_of(edits):
     """The functions, as `--only` takes them, whose check tells of some edits of one crate: those that they change,
     and if one of these calls another, also the shortest caller that no edit changes. Said judges by such a one
-    whether goals of callers count. No functions, if an edit changes more than bodies."""
-    if not all(edit.functions for edit in edits):
+    whether goals of callers count. No functions, if an edit changes more than functions."""
+    if not all(edit.touched for edit in edits):
         return []
     functions = functions_in(edits[0].folder, edits[0].modules)
-    places = set().union(*(edit.places() for edit in edits))
+    places = {it.place() for edit in edits for it in edit.touched}
     changed = [it for it in functions if it.place() in places]
     if any(it.calls(other) for it in changed for other in changed if it is not other):
         others = [it for it in functions if it not in changed and any(map(it.calls, changed))]
         changed += sorted(others, key=lambda it: it.last - it.head)[:1]
-    added = [it for edit in edits for it in edit.functions if it.is_added]
+    added = [it for edit in edits for it in edit.touched if it.is_added]
     return sorted(it.path() for it in changed + added)
 
 
