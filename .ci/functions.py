@@ -9,8 +9,8 @@ from crates import files_below, read, write
 # The beginning of a function, and of a type.
 FUNCTION = re.compile(r"( *)(?:pub(?:\([^)]*\))? )?(?:const )?fn (\w+)")
 TYPE = re.compile(r"(?m)^(?:pub(?:\([^)]*\))? )?(?:struct|enum) (\w+)")
-# A type with others for its parameters, as in `impl PerState<Reach>`.
-GIVEN = re.compile(r"impl (\w+)<([A-Z]\w*)> {")
+# A block of a type with parameters, `impl<OWN> TYPE<GIVEN> {`.
+GIVEN = re.compile(r"impl(?:<(.*)>)? (\w+)<([\w', ]*)> {")
 # A `use` of several names, in one line, by which nothing is handed on.
 USE = re.compile(r"((?:ghost )?use [\w:.]+\{)([^{}]*)(?=\};$)")
 # A file of lemmas, and the lemma by which functions are taken as proved: a hole, so nothing is proved by it.
@@ -95,8 +95,12 @@ def owner_of(file, head):
     if not head:
         stem = os.path.basename(file).removesuffix(".rt")
         return "" if stem in ("lib", "main") else stem
-    if given := GIVEN.match(head):
-        return "+".join(given.groups())
+    if given := GIVEN.fullmatch(head):
+        own, name, words = given.groups()
+        types = [it for it in words.split(", ") if not it.startswith("'")]
+        # As `Look+T+Brand` is, if a parameter is given.
+        if not set(types) <= set(re.findall(r"(?:^|, )(\w+)", own or "")):
+            return "+".join([name, *types])
     head = re.sub(r"^(impl(<.*?>)? |(pub )?(trait|mod) )|'\w+|[{&]", "", head)
     trait, _, owner = head.rpartition(" for ")
     # As `StopFromAllocError` is `impl From<AllocError> for Stop`.
