@@ -91,10 +91,10 @@ class Edit:
         return {it.place() for it in self.functions}
 
     def has(self, file, line):
-        return any(it.has(file, line) for it in self.functions)
+        return any(it.has(file, line) for it in self.touched)
 
     def has_proofs(self, path):
-        return any(it.has_proofs(path) for it in self.functions)
+        return any(it.has_proofs(path) for it in self.touched)
 
 
 def edits_of(folder, crate, kind):
