@@ -9,3 +9,4 @@ pub mod SparseLemmas
 pub mod SortedLemmas
 pub mod PlaceOfLemmas
 pub mod ClassLemmas
+pub mod KeptLemmas
