@@ -1,5 +1,6 @@
 -- A graph keeps its invariant as its memory grows.
-use Rattle.std.proofs.Common.{◌≡◌, ◌↔◌, ℕ, ◌+◌, ◌<◌, ◌≤◌, max, length, arith, sym, ap, subst, ◌∙◌, get_or}
+use Rattle.std.proofs.Common.{◌≡◌, ◌↔◌, ℕ, ◌+◌, ◌<◌, ◌≤◌, max, length, arith, sym, ap}
+use Rattle.std.proofs.Common.{subst, ◌∙◌, get_or}
 use Rattle.indexmap.specs.IndexSet.{spare}
 use Rattle.ld_graph.specs.declared.graph.Graph.TheInside.{Inside}
 use Rattle.ld_graph.specs.declared.graph.TheConstants.{MOST_GRAPH_CLASSES}
@@ -32,10 +33,13 @@ IsKept-grown old new g h =
       after_items = g.after.items ∙ h.after_items ∙ sym count;
       before_items = g.before.items ∙ h.before_items ∙ sym count;
       after_edges = λ a b. subst (λ l. IsNear l a b ↔ IsEdge new.edges.keys a b) (sym g.after.lists)
-          (subst (λ k. IsNear old.lists.after.lists a b ↔ IsEdge k a b) (sym g.keys) (h.after_edges a b));
-      before_edges = λ a b. subst (λ l. IsNear l a b ↔ IsEdge new.edges.keys b a) (sym g.before.lists)
-          (subst (λ k. IsNear old.lists.before.lists a b ↔ IsEdge k b a) (sym g.keys) (h.before_edges a b));
-      ends = λ a b e. subst (λ n. (a < n) × (b < n)) (sym classes) (h.ends a b (subst (λ k. IsEdge k a b) g.keys e));
+          (subst (λ k. IsNear old.lists.after.lists a b ↔ IsEdge k a b) (sym g.keys)
+          (h.after_edges a b));
+      before_edges = λ a b. subst (λ l. IsNear l a b ↔ IsEdge new.edges.keys b a) (sym
+          g.before.lists) (subst (λ k. IsNear old.lists.before.lists a b
+          ↔ IsEdge k b a) (sym g.keys) (h.before_edges a b));
+      ends = λ a b e. subst (λ n. (a < n) × (b < n)) (sym classes) (h.ends a b (subst (λ k. IsEdge k a
+          b) g.keys e));
       room_edges = omega (arith, g.edges, h.room_edges, spare_edges);
       room_after = (
         omega (arith, classes, h.room_after.0, g.after.class_room, spare_classes),
@@ -55,32 +59,47 @@ IsKept-grown old new g h =
 
 -- where there is memory for more, the spares may be more
 pub IsKept-spare : {C : Type 0} (g : Inside C) (classes edges more_classes more_edges : ℕ) → IsKept g
-    → more_classes ≡ max g.spare_classes classes → more_edges ≡ max g.spare_edges edges → edges ≤ spare g.edges
+    → more_classes ≡ max g.spare_classes classes → more_edges ≡ max g.spare_edges edges
+    → edges ≤ spare g.edges
     → g.classes + classes ≤ g.lists.after.class_room → g.lists.after.items + edges ≤ g.lists.after.item_room
     → g.classes + classes ≤ g.lists.before.class_room → g.lists.before.items + edges ≤ g.lists.before.item_room
-    → g.classes + classes ≤ g.ranks.room → g.classes + classes ≤ MOST_GRAPH_CLASSES
+    → g.classes + classes ≤ g.ranks.room
+    → g.classes + classes ≤ MOST_GRAPH_CLASSES
     → IsKept (record g { spare_classes = more_classes; spare_edges = more_edges })
-IsKept-spare g classes edges more_classes more_edges h m n e a b c d r f = record {
-  after_classes = h.after_classes;
-  before_classes = h.before_classes;
-  after_items = h.after_items;
-  before_items = h.before_items;
-  after_edges = h.after_edges;
-  before_edges = h.before_edges;
-  ends = h.ends;
-  room_edges = omega (arith, n, e, h.room_edges);
-  room_after = (omega (arith, m, a, h.room_after.0), omega (arith, n, b, h.after_items, h.room_after.1));
-  room_before = (omega (arith, m, c, h.room_before.0), omega (arith, n, d, h.before_items, h.room_before.1));
-  room_ranks = omega (arith, m, r, h.room_ranks);
-  few = omega (arith, m, f, h.few);
-  ranked = h.ranked;
-  rises = h.rises;
-  cycle = h.cycle;
-}
+IsKept-spare g classes edges more_classes more_edges h m n e a b c d r f =
+    let after = h.after_items in
+    let before = h.before_items in
+    record {
+      after_classes = h.after_classes;
+      before_classes = h.before_classes;
+      after_items = h.after_items;
+      before_items = h.before_items;
+      after_edges = h.after_edges;
+      before_edges = h.before_edges;
+      ends = h.ends;
+      room_edges = omega (arith, n, e, h.room_edges);
+      room_after = (
+        omega (arith, m, a, h.room_after.0),
+        omega (arith, n, b, after, h.room_after.1),
+      );
+      room_before = (
+        omega (arith, m, c, h.room_before.0),
+        omega (arith, n, d, before, h.room_before.1),
+      );
+      room_ranks = omega (arith, m, r, h.room_ranks);
+      few = omega (arith, m, f, h.few);
+      ranked = h.ranked;
+      rises = h.rises;
+      cycle = h.cycle;
+    }
 
 -- the neighbours in a graph's lists are classes
-pub after_ends : {C : Type 0} (g : Inside C) → IsKept g → (a b : ℕ) → IsNear g.lists.after.lists a b → b < length g.lists.after.lists
-after_ends g h a b n = omega (arith, (h.ends a b ((h.after_edges a b).0 n)).1, h.after_classes)
+pub after_ends : {C : Type 0} (g : Inside C) → IsKept g → (a b : ℕ) → IsNear g.lists.after.lists a b
+    → b < length g.lists.after.lists
+after_ends g h a b n = let e = (h.ends a b ((h.after_edges a b).0 n)).1
+    in omega (arith, e, h.after_classes)
 
-pub before_ends : {C : Type 0} (g : Inside C) → IsKept g → (a b : ℕ) → IsNear g.lists.before.lists a b → b < length g.lists.before.lists
-before_ends g h a b n = omega (arith, (h.ends b a ((h.before_edges a b).0 n)).0, h.before_classes)
+pub before_ends : {C : Type 0} (g : Inside C) → IsKept g → (a b : ℕ) → IsNear g.lists.before.lists a b
+    → b < length g.lists.before.lists
+before_ends g h a b n = let e = (h.ends b a ((h.before_edges a b).0 n)).0
+    in omega (arith, e, h.before_classes)

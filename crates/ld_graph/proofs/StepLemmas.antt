@@ -1,5 +1,6 @@
 -- A step of the search for components, as the code reads what it steps over.
-use Rattle.std.proofs.Common.{◌≡◌, ℕ, ◌<◌, ◌≤◌, inl, inr, List, length, get_or, Contains, arith, refl, sym, ap, subst, ◌∙◌}
+use Rattle.std.proofs.Common.{◌≡◌, ℕ, ◌<◌, ◌≤◌, inl, inr, List}
+use Rattle.std.proofs.Common.{length, get_or, Contains, arith, refl, sym, ap, subst, ◌∙◌}
 use Rattle.std.proofs.lemmas.List.{length_push, length-set}
 use Rattle.std.proofs.lemmas.List.Elements.{Contains-get_or}
 use Rattle.ld_graph.specs.declared.trail.Stage.{Stage}
@@ -26,7 +27,7 @@ module _ (lists : List (List ℕ)) (t : PlainTrail) (h : IsTrail lists t) (some 
   class_within = subst (λ g. g.class < length lists) (sym top) (top_within lists t h some)
 
   pub nexts_within : f.class < length t.nexts
-  nexts_within = omega (arith, class_within, h.nexts_len)
+  nexts_within = let a = class_within in let b = h.nexts_len in omega (arith, a, b)
 
   near_top : near ≡ list_at lists C
   near_top = is_near ∙ ap (λ g. list_at lists g.class) top
@@ -43,7 +44,7 @@ module _ (lists : List (List ℕ)) (t : PlainTrail) (h : IsTrail lists t) (some 
       step_to = subst (λ l. Contains l to) near_top (Contains-get_or near next 0 more)
 
       pub to_within : to < length t.stages
-      to_within = omega (arith, ends C to step_to, h.stages_len)
+      to_within = let a = ends C to step_to in let b = h.stages_len in omega (arith, a, b)
 
       more_top : next_at t C < length (list_at lists C)
       more_top = subst (λ n. n < length (list_at lists C)) next_top (subst (λ z. next < length z) near_top more)
@@ -58,11 +59,10 @@ module _ (lists : List (List ℕ)) (t : PlainTrail) (h : IsTrail lists t) (some 
           (subst (λ g. low ≤ g.low) top less) (subst (IsHandled t low) to_top handled) walk
 
       pub look_less : (low : ℕ) → work lists (advanced t low) < work lists t
-      look_less low = omega (
-        arith,
-        length-set t.path (last_of t) (lowered (top_of t) low),
-        rest_next lists t.nexts C (subst (λ g. g.class < length t.nexts) top nexts_within) (top_within lists t h some) more_top,
-      )
+      look_less low =
+          let a = rest_next lists t.nexts C (subst (λ g. g.class < length t.nexts) top nexts_within) (top_within lists t h some) more_top in
+          let b = length-set t.path (last_of t) (lowered (top_of t) low) in
+          omega (arith, a, b)
 
       -- the successor waits
       pub waits_trail : (position : ℕ) → stage_at t to ≡ Open position → position < f.low → IsTrail lists (advanced t position)
@@ -84,8 +84,7 @@ module _ (lists : List (List ℕ)) (t : PlainTrail) (h : IsTrail lists t) (some 
 -- less is left to do where a class is met
 pub enter_less : (lists : List (List ℕ)) (t : PlainTrail) (x : ℕ) → x < length t.stages → stage_at t x ≡ Fresh
     → work lists (entered t x) < work lists t
-enter_less lists t x l e = omega (
-  arith,
-  count_entered t.stages x (length t.waiting) l e,
-  length_push t.path (record { class = x; position = length t.waiting; low = length t.waiting }),
-)
+enter_less lists t x l e =
+    let a = count_entered t.stages x (length t.waiting) l e in
+    let b = length_push t.path (record { class = x; position = length t.waiting; low = length t.waiting }) in
+    omega (arith, a, b)

@@ -1,6 +1,5 @@
 -- What is left of what was touched, when some of it is taken away.
-use Rattle.std.proofs.Common.{◌≡◌, ◌≢◌, ◌<◌, ◌≤◌, ◌+◌, inl, inr, ◌∙◌, ◌∷◌, ◌++◌, [], ℕ, Contains, List, Option, Some, None, arith, get_or, length, set, sym}
-use Rattle.std.proofs.Common.{subst, ap, refl}
+use Rattle.std.proofs.Common.{◌≡◌, ◌≢◌, ◌<◌, ◌≤◌, ◌+◌, inl, inr, ◌∙◌, ◌∷◌, ◌++◌, [], ℕ, Contains, List, Option, Some, None, arith, get_or, length, set, sym, subst, ap, refl}
 use Rattle.std.specs.Prelude.{IfSome}
 use Rattle.std.specs.Borrow.{Bor}
 use Rattle.std.proofs.lemmas.Bool.{cases_eq}
@@ -11,15 +10,16 @@ use Rattle.ld_graph.specs.Inner.Levels.{level_at}
 
 pub taken : (levels : List (Option ℕ)) (touched : List ℕ) (i : ℕ) → get_or touched i 0 < length levels
     → ((x k : ℕ) → level_at levels x ≡ Some k → (j : ℕ) × ((i ≤ j) × ((j < length touched) × (get_or touched j 0 ≡ x))))
-    → (x k : ℕ) → level_at (set levels (get_or touched i 0) None) x ≡ Some k
-    → (j : ℕ) × ((i + 1 ≤ j) × ((j < length touched) × (get_or touched j 0 ≡ x)))
+    → (x k : ℕ) → level_at (set levels (get_or touched i 0) None) x ≡ Some k → (j : ℕ) × ((i + 1 ≤ j) × ((j < length touched) × (get_or touched j 0 ≡ x)))
 taken levels touched i within h x k e = elim (cases_eq x (get_or touched i 0)) [
-  | inl s ↦ let f = ap (level_at (set levels (get_or touched i 0) None)) s
-      ∙ get_or-set_same levels (get_or touched i 0) None None within in cc
+  | inl s ↦
+      let f : level_at (set levels (get_or touched i 0) None) x ≡ None = ap (λ z. level_at (set levels (get_or touched i 0) None) z) s ∙ get_or-set_same levels (get_or touched i 0) None None within in
+      cc
   | inr ne ↦
       let q = h x k (sym (get_or-set_other levels (get_or touched i 0) x None None ne) ∙ e) in
+      let a = q.1.0 in
       let other : q.0 ≢ i = λ s. ne (sym q.1.1.1 ∙ ap (λ z. get_or touched z 0) s) in
-      (q.0, (omega (arith, q.1.0, other), q.1.1))
+      (q.0, (omega (arith, a, other), q.1.1))
 ]
 
 pub none_left : (levels : List (Option ℕ)) (x : ℕ) → ((k : ℕ) → level_at levels x ≡ Some k → ⊥) → level_at levels x ≡ None
@@ -33,8 +33,8 @@ pub touched_more : (levels : List (Option ℕ)) (touched : List ℕ) (class leve
     → AreTouched levels touched → AreTouched (set levels class (Some level)) (touched ++ class ∷ [])
 touched_more levels touched class level within h = record {
   within = λ x m. elim (Contains-push_cases touched class x m) [
-    | inl n ↦ omega (arith, h.within x n, length-set levels class (Some level))
-    | inr e ↦ omega (arith, e, within, length-set levels class (Some level))
+    | inl n ↦ let l = h.within x n in let s = length-set levels class (Some level) in omega (arith, l, s)
+    | inr e ↦ let s = length-set levels class (Some level) in omega (arith, e, s, within)
   ];
   all = λ x k e. elim (cases_eq x class) [
     | inl s ↦ subst (Contains (touched ++ class ∷ [])) (sym s) (Contains-push touched class)

@@ -1,6 +1,6 @@
 -- A node is appended.
 use Rattle.std.proofs.Common.{◌≡◌, ◌≢◌, ℕ, zero, suc, ◌+◌, ◌<◌, List, [], ◌∷◌, ◌++◌, get_or, set, length, arith, refl, sym, ap, subst, ◌∙◌, get_or-set_other, get_or-set_same}
-use Rattle.std.proofs.lemmas.List.{get_or_append_left, get_or_push, get_or_read, length_push, length-set}
+use Rattle.std.proofs.lemmas.List.{get_or_append_left, get_or_push, length_push, length-set}
 use Rattle.ld_order.specs.Inner.Rings.{IsRing, IsNode, AreLinked}
 use Rattle.ld_order.proofs.RingLemmas.{linked}
 
@@ -29,13 +29,15 @@ module _ (n : ℕ) (label next prev l1 n1 p1 : ℕ → ℕ) (r : AreLinked n lab
       prev_in = λ c h. subst (IsNode (n + 1) n) (sym (g c (below c h))) (wider (prev c) (r.prev_in c (node c h)));
       up = λ c h z. let u = r.up c (node c h) (λ w. z (f c (below c h) ∙ w)) in let a = e c (below c h) in let b = next_is c h in omega (arith, u, a, b);
       none = λ c d h k l.
-          let a = e c (below c h) in let b = e d (below d k) in let m = r.none c d (node c h) (node d k) (omega (arith, a, b, l)) in
-          let q = next_is c h in let w = m.1 in (λ z. m.0 (sym (f c (below c h)) ∙ z), omega (arith, b, q, w));
+          let a = e c (below c h) in let b = e d (below d k) in
+          let m = r.none c d (node c h) (node d k) (omega (arith, a, b, l)) in
+          let q = next_is c h in let w = m.1 in
+          (λ z. m.0 (sym (f c (below c h)) ∙ z), omega (arith, b, q, w));
       back = λ c h. ap p1 (f c (below c h)) ∙ g (next c) (r.next_in c (node c h)).0 ∙ r.back c (node c h);
       forth = λ c h. ap n1 (g c (below c h)) ∙ f (prev c) (r.prev_in c (node c h)).0 ∙ r.forth c (node c h);
     }
 
-module _ {labels next prev : List ℕ} (r : IsRing labels next prev) (label : ℕ)
+module _ (labels next prev : List ℕ) (r : IsRing labels next prev) (label : ℕ)
     (high : get_or labels (get_or prev 0 0) 0 < label) (labels1 next1 prev1 : List ℕ)
     (a : labels1 ≡ labels ++ label ∷ []) (b : next1 ≡ next ++ 0 ∷ []) (c : prev1 ≡ prev ++ get_or prev 0 0 ∷ []) where
   head : IsNode (length labels) (length labels) 0
@@ -73,7 +75,7 @@ module _ {labels next prev : List ℕ} (r : IsRing labels next prev) (label : �
 
   ring : AreLinked (length labels + 1) (λ k. get_or labels1 k 0) (λ k. get_or (set next1 (get_or prev 0 0) (length labels)) k 0)
       (λ k. get_or (set prev1 0 (length labels)) k 0) (length labels + 1)
-  ring = linked (length labels)
+  ring = linked (length labels + 1) (λ k. get_or labels1 k 0) (λ k. get_or next1 k 0) (λ k. get_or prev1 k 0) (length labels)
       (extended (length labels) (λ k. get_or labels k 0) (λ k. get_or next k 0) (λ k. get_or prev k 0) (λ k. get_or labels1 k 0) (λ k. get_or next1 k 0) (λ k. get_or prev1 k 0) r.links l_is n_is p_is)
       (omega arith) (get_or prev 0 0) ((let q = last_in in omega (arith, q)), ne)
       (λ k. get_or labels1 k 0) (λ k. get_or (set next1 (get_or prev 0 0) (length labels)) k 0) (λ k. get_or (set prev1 0 (length labels)) k 0)
@@ -84,8 +86,10 @@ module _ {labels next prev : List ℕ} (r : IsRing labels next prev) (label : �
       (get_or-set_other prev1 0 (length labels) (length labels) 0 (λ z. let q = r.links.some in omega (arith, z, q))
       ∙ (rw c (get_or_push prev (get_or prev 0 0) 0 (length labels) r.prev_len)))
       (ap (λ k. get_or (set prev1 0 (length labels)) k 0) last_next ∙ get_or-set_same prev1 0 (length labels) 0 (omega (arith, p_len)))
-      (λ k u v. get_or-set_other prev1 0 k (length labels) 0 (λ z. u (z ∙ sym last_next))) (λ k u. refl)
-      (let q = l_is (get_or prev 0 0) last_in in omega (arith, q, new_label, high)) (λ z. absurd (z last_next))
+      (λ k u v. get_or-set_other prev1 0 k (length labels) 0 (λ z. u (z ∙ sym last_next)))
+      (λ k u. refl)
+      (let q = l_is (get_or prev 0 0) last_in in omega (arith, q, new_label, high))
+      (λ z. absurd (z last_next))
 
   pub pushed : IsRing labels1 (set next1 (get_or prev 0 0) (length labels)) (set prev1 0 (length labels))
   pushed = record {
@@ -93,17 +97,6 @@ module _ {labels next prev : List ℕ} (r : IsRing labels next prev) (label : �
     prev_len = length-set prev1 0 (length labels) ∙ p_len ∙ sym l_len;
     links = subst (λ m. AreLinked m (λ k. get_or labels1 k 0) (λ k. get_or (set next1 (get_or prev 0 0) (length labels)) k 0) (λ k. get_or (set prev1 0 (length labels)) k 0) m) (sym l_len) ring;
   }
-
--- the last node and its label, as they are read
-module _ {labels next prev : List ℕ} (r : IsRing labels next prev) (last : ℕ) (e : last ≡ get_or prev 0 last) where
-  pub last_is : last ≡ get_or prev 0 0
-  last_is = get_or_read prev 0 last (let q = r.prev_len in let s = r.links.some in omega (arith, q, s)) e 0
-
-  pub last_below : last < length labels
-  last_below = let s = r.links.some in let q = (r.links.prev_in 0 (s, λ z. omega (arith, z, s))).0 in let l = last_is in omega (arith, l, q)
-
-  pub top_is : (top : ℕ) → top ≡ get_or labels last top → top ≡ get_or labels (get_or prev 0 0) 0
-  top_is top f = get_or_read labels last top last_below f 0 ∙ ap (λ v. get_or labels v 0) last_is
 
 -- the head alone
 pub ring_of_head : (labels next prev : List ℕ) → labels ≡ 0 ∷ [] → next ≡ 0 ∷ [] → prev ≡ 0 ∷ [] → IsRing labels next prev

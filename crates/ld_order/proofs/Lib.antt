@@ -9,4 +9,3 @@ pub mod SparseLemmas
 pub mod SortedLemmas
 pub mod PlaceOfLemmas
 pub mod ClassLemmas
-pub mod KeptLemmas

@@ -2,7 +2,7 @@
 use Rattle.std.proofs.Common.{◌≡◌, ◌↔◌, ℕ, ◌<◌, ◌≤◌, arith, sym, ap, ◌∙◌}
 use Rattle.ld_order.specs.Inner.Rings.{AreLinked, IsNode}
 
-module _ {n : ℕ} {label next prev : ℕ → ℕ} (r : AreLinked n label next prev n) where
+module _ (n : ℕ) (label next prev : ℕ → ℕ) (r : AreLinked n label next prev n) where
   node : (c : ℕ) → c < n → IsNode n n c
   node c h = (h, λ e. omega (arith, h, e))
 
@@ -11,7 +11,8 @@ module _ {n : ℕ} {label next prev : ℕ → ℕ} (r : AreLinked n label next p
 
   module _ (b : ℕ) (l : b < n) (s : 0 < b) where
     pub before_less : label (prev b) < label b
-    before_less = let f = r.forth b (node b l) in
+    before_less =
+        let f = r.forth b (node b l) in
         let u = r.up (prev b) (r.prev_in b (node b l)) (λ z. let q : b ≡ 0 = sym f ∙ z in omega (arith, q, s)) in
         let v = ap label f in omega (arith, u, v)
 

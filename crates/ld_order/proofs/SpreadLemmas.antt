@@ -6,17 +6,14 @@ use Rattle.ld_order.specs.Inner.Rings.{AreLinked, IsSameOrder, IsSpread, rank}
 use Rattle.ld_order.proofs.RankLemmas.{rank-less, rank-once}
 
 -- labels that rise with the old ones are in their order
-pub rising_same : {n : ℕ} {label next prev : ℕ → ℕ} (label_new : ℕ → ℕ) → AreLinked n label next prev n
+pub rising_same : (n : ℕ) (label next prev label_new : ℕ → ℕ) → AreLinked n label next prev n
     → ((c d : ℕ) → c < n → d < n → label c < label d → label_new c < label_new d) → IsSameOrder n label label_new
-rising_same {n} {label} {next} {prev} label_new r up c d h k = (λ a. told a (cases_lt (label d) (label c)) (cases_eq (label c) (label d)), up c d h k)
+rising_same n label next prev label_new r up c d h k = (λ a. grind (arith, same, up d c k h, a), up c d h k)
   where
-    told : label_new c < label_new d → (label d < label c) ⊎ (label c ≤ label d) → (label c ≡ label d) ⊎ (label c ≢ label d) → label c < label d
-    told a (inl b) _ = let m = up d c k h b in absurd (omega (arith, a, m))
-    told a (inr _) (inl e) =
-        let m = ap label_new (r.once c d (h, λ w. omega (arith, h, w)) (k, λ w. omega (arith, k, w)) e) in absurd (omega (arith, a, m))
-    told a (inr b) (inr e) = omega (arith, b, e)
+    same : label c ≡ label d → label_new c ≡ label_new d
+    same e = ap label_new (r.once c d (h, λ w. omega (arith, h, w)) (k, λ w. omega (arith, k, w)) e)
 
-module _ {n : ℕ} {label next prev : ℕ → ℕ} (label_new : ℕ → ℕ) (r : AreLinked n label next prev n) (at left count step : ℕ) (h : at < n)
+module _ (n : ℕ) (label next prev label_new : ℕ → ℕ) (r : AreLinked n label next prev n) (at left count step : ℕ) (h : at < n)
     (s : IsSpread n label label_new at left count step) (some : 0 < step)
     (stretch : (c : ℕ) → c < n → rank n label at + count < rank n label c → label at + (left + count) * step < label c) where
   pub spread_rises : (c d : ℕ) → c < n → d < n → label c < label d → label_new c < label_new d
@@ -28,34 +25,43 @@ module _ {n : ℕ} {label next prev : ℕ → ℕ} (label_new : ℕ → ℕ) (r 
 
       mid_most : (e : ℕ) → e < n → rank n label at < rank n label e → rank n label e ≤ rank n label at + count
           → label_new e ≤ label at + (left + count) * step
-      mid_most e q x y = let v = s.inside e q x y in
+      mid_most e q x y =
+          let v = s.inside e q x y in
           let m : (left + (rank n label e - rank n label at)) * step ≤ (left + count) * step = mul-le-mul_right step (omega (arith, x, y)) in
           omega (arith, v, m)
 
-      mid_more : (e : ℕ) → e < n → rank n label at < rank n label e → rank n label e ≤ rank n label at + count → label at < label_new e
-      mid_more e q x y = let v = s.inside e q x y in
+      mid_more : (e : ℕ) → e < n → rank n label at < rank n label e → rank n label e ≤ rank n label at + count
+          → label at < label_new e
+      mid_more e q x y =
+          let v = s.inside e q x y in
           let m : 1 * step ≤ (left + (rank n label e - rank n label at)) * step = mul-le-mul_right step (omega (arith, x, y)) in
           omega (arith, v, m, some)
 
       by : (rank n label at < rank n label c) ⊎ (rank n label c ≤ rank n label at)
           → (rank n label at + count < rank n label c) ⊎ (rank n label c ≤ rank n label at + count)
           → (rank n label at < rank n label d) ⊎ (rank n label d ≤ rank n label at)
-          → (rank n label at + count < rank n label d) ⊎ (rank n label d ≤ rank n label at + count) → label_new c < label_new d
+          → (rank n label at + count < rank n label d) ⊎ (rank n label d ≤ rank n label at + count)
+          → label_new c < label_new d
       by (inl x) (inl y) _ (inl z) = let u = s.above c k y in let v = s.above d l z in omega (arith, u, v, a)
       by _ (inl y) _ (inr z) = absurd (omega (arith, less, y, z))
       by (inr x) (inl y) _ _ = absurd (omega (arith, x, y))
-      by (inl x) (inr y) _ (inl z) = let u = mid_most c k x y in let v = s.above d l z in let w = stretch d l z in omega (arith, u, v, w)
-      by (inl x) (inr y) (inl t) (inr z) = let u = s.inside c k x y in let v = s.inside d l t z in
+      by (inl x) (inr y) _ (inl z) =
+          let u = mid_most c k x y in let v = s.above d l z in let w = stretch d l z in omega (arith, u, v, w)
+      by (inl x) (inr y) (inl t) (inr z) =
+          let u = s.inside c k x y in let v = s.inside d l t z in
           let m : (left + (rank n label c - rank n label at) + 1) * step ≤ (left + (rank n label d - rank n label at)) * step = mul-le-mul_right step (omega (arith, less, x)) in
-          let e = add-mul (left + (rank n label c - rank n label at)) 1 step in omega (arith, u, v, m, e, some)
+          let e = add-mul (left + (rank n label c - rank n label at)) 1 step in
+          omega (arith, u, v, m, e, some)
       by (inl x) (inr y) (inr t) (inr z) = absurd (omega (arith, less, x, t))
-      by (inr x) (inr y) (inl t) (inl z) = let u = s.below c k x in let v = s.above d l z in omega (arith, u, v, a)
-      by (inr x) (inr y) (inl t) (inr z) = let u = s.below c k x in let v = mid_more d l t z in
-          let no : ¬ (label at < label c) = λ w. let m = rank-less n label at c h w in omega (arith, m, x) in omega (arith, u, v, no)
-      by (inr x) (inr y) (inr t) _ = let u = s.below c k x in let v = s.below d l t in omega (arith, u, v, a)
+      by (inr x) (inr y) (inl t) (inl z) =
+          let u = s.below c k x in let v = s.above d l z in omega (arith, u, v, a)
+      by (inr x) (inr y) (inl t) (inr z) =
+          let u = s.below c k x in let v = mid_more d l t z in grind (arith, u, v, x, rank-less n label at c h)
+      by (inr x) (inr y) (inr t) _ =
+          let u = s.below c k x in let v = s.below d l t in omega (arith, u, v, a)
 
 -- one node more
-module _ {n : ℕ} {label next prev : ℕ → ℕ} (r : AreLinked n label next prev n) (at left count step node value : ℕ)
+module _ (n : ℕ) (label next prev : ℕ → ℕ) (r : AreLinked n label next prev n) (at left count step node value : ℕ)
     (written : List ℕ) (len : length written ≡ n) (l : node < n) (here : rank n label node ≡ rank n label at + count + 1)
     (is : value ≡ label at + (left + (count + 1)) * step) (s : IsSpread n label (λ k. get_or written k 0) at left count step) where
   pub spread-more : IsSpread n label (λ k. get_or (set written node value) k 0) at left (count + 1) step
@@ -74,7 +80,8 @@ module _ {n : ℕ} {label next prev : ℕ → ℕ} (r : AreLinked n label next p
           let q : rank n label c - rank n label at ≡ count + 1 = (let a = ap (rank n label) e in omega (arith, a, here)) in
           ap (λ k. get_or (set written node value) k 0) e
           ∙ get_or-set_same written node value 0 (omega (arith, l, len)) ∙ is ∙ ap (λ k. label at + (left + k) * step) (sym q)
-      inside c h k m (inr e) = let f : rank n label c ≢ rank n label node = λ w. e (rank-once r c node h l w) in
+      inside c h k m (inr e) =
+          let f : rank n label c ≢ rank n label node = λ w. e (rank-once n label next prev r c node h l w) in
           get_or-set_other written node c value 0 e ∙ s.inside c h k (omega (arith, m, f, here))
 
 pub spread-none : (n : ℕ) (label : ℕ → ℕ) (at left step : ℕ) → IsSpread n label label at left 0 step

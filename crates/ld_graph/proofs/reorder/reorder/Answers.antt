@@ -2,30 +2,16 @@ use Rattle.std.proofs.Common.{arith}
 use Rattle.ld_graph.proofs.RepairLemmas.{repaired_backward, repaired_forward}
 use Rattle.ld_graph.proofs.reorder.reorder.Goals as goal
 
-pub returns-in-Backward : goal.returns-in-Backward
-returns-in-Backward g c =
+pub returns-in-Backward-clause-repaired : goal.returns-in-Backward-clause-repaired
+returns-in-Backward-clause-repaired g c =
     let f = c.find_by_rank-ended.ensures in
-    record {
-      size = f.size;
-      room = c.settle_backward.ensures.room;
-      rises = omega (arith, f.some);
-      most = f.most;
-      met = c.settle_backward.ensures.met;
-      repaired = repaired_backward c.args.lists.now c.requires.turned _ _ f.ranks c.requires.rises _ _ c.requires.against _ _ f.first.0 f.first.1
-          c.found.ensures.once c.found-2.ensures.once _ (omega (arith, f.some)) (omega (arith, f.read)) c.in-Backward.ensures.ended.0
-          c.in-Backward.ensures.ended.1 c.settle_backward.result c.settle_backward.ensures.mended c.settle_backward.ensures.apart;
-    }
+    repaired_backward c.args.lists.now c.requires.turned _ _ f.ranks c.requires.rises _ _ c.requires.against _ _ f.first.0 f.first.1
+    c.found.ensures.once c.found-2.ensures.once _ (omega (arith, f.some)) (omega (arith, f.read)) c.in-Backward.ensures.ended.0
+    c.in-Backward.ensures.ended.1 c.settle_backward.result c.settle_backward.ensures.mended c.settle_backward.ensures.apart
 
-pub returns-in-Forward : goal.returns-in-Forward
-returns-in-Forward g c =
+pub returns-in-Forward-clause-repaired : goal.returns-in-Forward-clause-repaired
+returns-in-Forward-clause-repaired g c =
     let f = c.find_by_rank-ended.ensures in
-    record {
-      size = f.size;
-      room = c.settle_forward.ensures.room;
-      rises = omega (arith, f.some);
-      most = f.most;
-      met = c.settle_forward.ensures.met;
-      repaired = repaired_forward c.args.lists.now c.requires.turned _ _ f.ranks c.requires.rises _ _ c.requires.against _ _ f.first.0 f.first.1
-          c.found.ensures.once c.found-2.ensures.once _ (omega (arith, f.some)) (omega (arith, f.read)) c.in-Forward.ensures.ended.0
-          c.in-Forward.ensures.ended.1 c.settle_forward.result c.settle_forward.ensures.mended c.settle_forward.ensures.apart;
-    }
+    repaired_forward c.args.lists.now c.requires.turned _ _ f.ranks c.requires.rises _ _ c.requires.against _ _ f.first.0 f.first.1
+    c.found.ensures.once c.found-2.ensures.once _ (omega (arith, f.some)) (omega (arith, f.read)) c.in-Forward.ensures.ended.0
+    c.in-Forward.ensures.ended.1 c.settle_forward.result c.settle_forward.ensures.mended c.settle_forward.ensures.apart

@@ -29,12 +29,14 @@ arrange-requires-clause-room c =
     omega (arith, f, c.requires.room)
 
 pub shift-requires-clause-ring : goal.shift-requires-clause-ring
-shift-requires-clause-ring c = same_ring c.deref_mut.ensures.value c.deref_mut-2.ensures.value c.deref_mut-3.ensures.value c.requires.ring
+shift-requires-clause-ring c =
+    same_ring c.deref_mut.ensures.value c.deref_mut-2.ensures.value c.deref_mut-3.ensures.value c.requires.ring
 
 pub shift-requires-clause-most : goal.shift-requires-clause-most
 shift-requires-clause-most c =
     let p = subst (IsPermutation (map node_of c.args.classes.now)) (sym c.deref-2.ensures.value) c.arrange.ensures.same in
-    let l = length_permutation (map node_of c.args.classes.now) c.deref-2.result.now p in let n = length-map c.args.classes.now node_of in
+    let l = length_permutation (map node_of c.args.classes.now) c.deref-2.result.now p in
+    let n = length-map c.args.classes.now node_of in
     let f = classes_few c.args.labels.now.items c.args.classes.now c.requires.ring.links.some c.requires.once c.requires.classes in
     omega (arith, l, n, f, c.requires.few)
 
@@ -68,14 +70,17 @@ shift-requires-clause-apart c = λ k l e.
     c.requires.apart q.0 q.1.0 (ap (λ l. get_or l c.args.at 0) (sym c.deref_mut-2.ensures.value) ∙ e ∙ q.1.1)
 
 pub returns-clause-ring : goal.returns-clause-ring
-returns-clause-ring c = let s = c.shift.new in let e = c.shift.ensures in same_ring
+returns-clause-ring c =
+    let s = c.shift.new in let e = c.shift.ensures in
+    same_ring
     (take_at s.labels (drop (length s.labels) c.args.labels.now.items) _ (e.len ∙ c.deref_mut.ensures.len))
     (take_at s.next (drop (length s.next) c.args.next.now.items) _ (e.links.0 ∙ c.deref_mut-2.ensures.len))
     (take_at s.prev (drop (length s.prev) c.args.prev.now.items) _ (e.links.1 ∙ c.deref_mut-3.ensures.len))
     e.ring
 
 pub returns-clause-len : goal.returns-clause-len
-returns-clause-len c = let s = c.shift.new in let e = c.shift.ensures in
+returns-clause-len c =
+    let s = c.shift.new in let e = c.shift.ensures in
     ap length (take_at s.labels (drop (length s.labels) c.args.labels.now.items) _ (e.len ∙ c.deref_mut.ensures.len))
     ∙ e.len ∙ ap length c.deref_mut.ensures.value
 
@@ -90,7 +95,8 @@ returns-clause-moved c = λ limit place.
     let p = subst (IsPermutation (map node_of c.args.classes.now)) (sym c.deref-2.ensures.value) c.arrange.ensures.same in
     subst (λ l. HaveMoved (Contains c.args.classes.now) limit (ranks_of c.args.labels.now.items) (ranks_of l))
     (sym (take_at c.shift.new.labels (drop (length c.shift.new.labels) c.args.labels.now.items) _ (c.shift.ensures.len ∙ c.deref_mut.ensures.len)))
-    (have_moved c.args.classes.now c.deref-2.result.now p c.requires.ring c.shift.ensures.ring (c.shift.ensures.len ∙ ap length c.deref_mut.ensures.value)
+    (have_moved c.args.classes.now c.deref-2.result.now p c.args.labels.now.items c.args.next.now.items c.args.prev.now.items c.requires.ring
+    c.shift.new.labels c.shift.new.next c.shift.new.prev c.shift.ensures.ring (c.shift.ensures.len ∙ ap length c.deref_mut.ensures.value)
     (λ x m. let h = c.requires.classes x m in let n = ranks_len c.args.labels.now.items in omega (arith, h, n))
     c.args.at limit
     (subst (λ l. IsShifted (length l) (λ x. get_or l x 0) (λ x. get_or c.shift.new.labels x 0) (IsOneOf c.deref-2.result.now (length c.deref-2.result.now)) c.args.at)

@@ -1,48 +1,8 @@
-use Rattle.std.proofs.Common.{◌≡◌, ◌≢◌, ◌⊎◌, inl, inr, ◌<◌, ◌+◌, ◌-◌, ◌∙◌, arith, get_or, length, refl, sym, subst, ap}
+use Rattle.std.proofs.Common.{◌≡◌, ◌≢◌, ◌⊎◌, inl, inr, ◌+◌, ◌-◌, ◌∙◌, arith, get_or, length, sym, subst, ap}
 use Rattle.std.proofs.lemmas.Bool.{cases_eq}
 use Rattle.ld_order.specs.Inner.Rings.{IsBehind, IsSameOrder, IsOneOf, IsShifted}
-use Rattle.ld_order.proofs.ShiftLemmas.{at_below, shifted-more, shifted-none}
+use Rattle.ld_order.proofs.ShiftLemmas.{shifted-more}
 use Rattle.ld_order.proofs.moves.shift.Goals as goal
-
-pub loop-node-init : goal.loop-node-init
-loop-node-init c = record {
-  ring = c.requires.ring;
-  left = omega arith;
-  len = refl;
-  next_len = refl;
-  prev_len = refl;
-  begin = λ _. refl;
-  last = λ e. absurd (omega (arith, e));
-  next = refl;
-  shifted = shifted-none (length c.args.labels.now) (λ k. get_or c.args.labels.now k 0) c.args.found.now c.args.at;
-}
-
-pub fit-label-requires-clause-at : goal.fit-label-requires-clause-at
-fit-label-requires-clause-at c = let i = c.loop-node.invariant in subst (λ m. c.loop-node.behind < m) (sym i.len)
-    (at_below (length c.args.labels.now) c.args.found.now c.loop-node.node-index c.args.at c.loop-node.behind
-    (λ k b. c.requires.nodes k (omega (arith, b, c.loop-node-test.true))) i.begin i.last c.requires.at)
-
-pub place-requires-clause-at : goal.place-requires-clause-at
-place-requires-clause-at c = let i = c.loop-node.invariant in subst (λ m. c.loop-node.behind < m) (sym (c.fit-label.ensures.len ∙ i.len))
-    (at_below (length c.args.labels.now) c.args.found.now c.loop-node.node-index c.args.at c.loop-node.behind
-    (λ k b. c.requires.nodes k (omega (arith, b, c.loop-node-test.true))) i.begin i.last c.requires.at)
-
-pub place-requires-clause-ring : goal.place-requires-clause-ring
-place-requires-clause-ring c = c.fit-label.ensures.ring
-
-pub place-requires-clause-some : goal.place-requires-clause-some
-place-requires-clause-some c = c.requires.some c.loop-node.node-index c.loop-node-test.true
-
-pub place-requires-clause-node : goal.place-requires-clause-node
-place-requires-clause-node c =
-    subst (λ m. get_or c.args.found.now c.loop-node.node-index 0 < m) (sym (c.fit-label.ensures.len ∙ c.loop-node.invariant.len))
-    (c.requires.nodes c.loop-node.node-index c.loop-node-test.true)
-
-pub place-requires-clause-moves : goal.place-requires-clause-moves
-place-requires-clause-moves c = λ e. c.requires.apart c.loop-node.node-index c.loop-node-test.true (sym c.loop-node.invariant.next ∙ e)
-
-pub place-requires-clause-high : goal.place-requires-clause-high
-place-requires-clause-high c = c.fit-label.ensures.high
 
 pub place-requires-clause-other : goal.place-requires-clause-other
 place-requires-clause-other c = λ e. by e (cases_eq c.loop-node.node-index 0)
@@ -50,36 +10,39 @@ place-requires-clause-other c = λ e. by e (cases_eq c.loop-node.node-index 0)
     by : c.loop-node.behind ≡ get_or c.args.found.now c.loop-node.node-index 0
         → (c.loop-node.node-index ≡ 0) ⊎ (c.loop-node.node-index ≢ 0) → ⊥
     by e (inl z) = c.requires.free c.loop-node.node-index c.loop-node-test.true (sym e ∙ c.loop-node.invariant.begin z)
-    by e (inr z) = let l = c.loop-node.invariant.last (omega (arith, z)) in
+    by e (inr z) =
+        let l = c.loop-node.invariant.last (omega (arith, z)) in
         let a = c.requires.rising (c.loop-node.node-index - 1) c.loop-node.node-index (omega (arith, z)) c.loop-node-test.true in
         let b = ap (λ k. get_or c.args.labels.now k 0) (sym l ∙ e) in omega (arith, a, b)
 
 pub loop-node-preserved : goal.loop-node-preserved
-loop-node-preserved c = let i = c.loop-node.invariant in let t = c.loop-node-test.true in record {
-  ring = c.place.ensures.ring;
-  left = omega (arith, i.left, t);
-  len = c.place.ensures.len ∙ c.fit-label.ensures.len ∙ i.len;
-  next_len = let n = c.place.ensures.ring.next_len in let m = c.place.ensures.len in let f = c.fit-label.ensures.len in let o = c.requires.ring.next_len in
-      omega (arith, n, m, f, o, i.len);
-  prev_len = let n = c.place.ensures.ring.prev_len in let m = c.place.ensures.len in let f = c.fit-label.ensures.len in let o = c.requires.ring.prev_len in
-      omega (arith, n, m, f, o, i.len);
-  begin = λ e. absurd (omega (arith, e));
-  last = λ _. let e : c.loop-node.node-index ≡ c.loop-node.node-index + 1 - 1 = omega arith in ap (λ k. get_or c.args.found.now k 0) e;
-  next = c.place.ensures.next ∙ i.next;
-  shifted = shifted-more (length c.args.labels.now) (λ k. get_or c.args.labels.now k 0) (λ k. get_or c.loop-node.labels k 0)
-      (λ k. get_or c.fit-label.new.labels k 0) (λ k. get_or c.place.new.labels k 0) c.args.found.now c.loop-node.node-index
-      c.args.at c.loop-node.behind i.shifted
-      (subst (λ m. IsSameOrder m (λ k. get_or c.loop-node.labels k 0) (λ k. get_or c.fit-label.new.labels k 0)) i.len c.fit-label.ensures.order)
-      (subst (λ m. IsBehind m (λ k. get_or c.fit-label.new.labels k 0) (λ k. get_or c.place.new.labels k 0) (get_or c.args.found.now c.loop-node.node-index 0) c.loop-node.behind) (c.fit-label.ensures.len ∙ i.len) c.place.ensures.behind)
-      (λ j k a b. c.requires.rising j k a (omega (arith, b, t))) (λ k b. c.requires.nodes k (omega (arith, b, t)))
-      i.begin i.last c.requires.at (λ k b. c.requires.free k (omega (arith, b, t)));
-}
+loop-node-preserved c =
+    let i = c.loop-node.invariant in
+    let t = c.loop-node-test.true in
+    record {
+      ring = c.place.ensures.ring;
+      left = omega (arith, i.left, t);
+      len = c.place.ensures.len ∙ c.fit-label.ensures.len ∙ i.len;
+      next_len = let n = c.place.ensures.ring.next_len in let m = c.place.ensures.len in let f = c.fit-label.ensures.len in let o = c.requires.ring.next_len in
+          omega (arith, n, m, f, o, i.len);
+      prev_len = let n = c.place.ensures.ring.prev_len in let m = c.place.ensures.len in let f = c.fit-label.ensures.len in let o = c.requires.ring.prev_len in
+          omega (arith, n, m, f, o, i.len);
+      begin = λ e. absurd (omega (arith, e));
+      last = λ _. let e : c.loop-node.node-index ≡ c.loop-node.node-index + 1 - 1 = omega arith in
+          ap (λ k. get_or c.args.found.now k 0) e;
+      next = c.place.ensures.next ∙ i.next;
+      shifted = shifted-more (length c.args.labels.now) (λ k. get_or c.args.labels.now k 0) (λ k. get_or c.loop-node.labels k 0)
+          (λ k. get_or c.fit-label.new.labels k 0) (λ k. get_or c.place.new.labels k 0) c.args.found.now c.loop-node.node-index
+          c.args.at c.loop-node.behind i.shifted
+          (subst (λ m. IsSameOrder m (λ k. get_or c.loop-node.labels k 0) (λ k. get_or c.fit-label.new.labels k 0)) i.len c.fit-label.ensures.order)
+          (subst (λ m. IsBehind m (λ k. get_or c.fit-label.new.labels k 0) (λ k. get_or c.place.new.labels k 0) (get_or c.args.found.now c.loop-node.node-index 0) c.loop-node.behind) (c.fit-label.ensures.len ∙ i.len) c.place.ensures.behind)
+          (λ j k a b. c.requires.rising j k a (omega (arith, b, t)))
+          (λ k b. c.requires.nodes k (omega (arith, b, t)))
+          i.begin i.last c.requires.at (λ k b. c.requires.free k (omega (arith, b, t)));
+    }
 
 pub returns-clause-shifted : goal.returns-clause-shifted
 returns-clause-shifted c =
     let e : c.loop-node.node-index ≡ length c.args.found.now = omega (arith, c.loop-node-test.false, c.loop-node.auto.node-index-end) in
     subst (λ m. IsShifted (length c.args.labels.now) (λ k. get_or c.args.labels.now k 0) (λ k. get_or c.loop-node.labels k 0)
     (IsOneOf c.args.found.now m) c.args.at) e c.loop-node.invariant.shifted
-
-pub returns-clause-ring : goal.returns-clause-ring
-returns-clause-ring c = c.loop-node.invariant.ring

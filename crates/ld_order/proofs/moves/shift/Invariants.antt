@@ -12,5 +12,6 @@ invariant-loop-node l = record {
   begin : l.node-index ≡ 0 → l.behind ≡ l.at;
   last : 0 < l.node-index → l.behind ≡ get_or l.found (l.node-index - 1) 0;
   next : get_or l.next l.behind 0 ≡ get_or l.fn.next l.at 0;
-  shifted : IsShifted (length l.fn.labels) (λ k. get_or l.fn.labels k 0) (λ k. get_or l.labels k 0) (IsOneOf l.found l.node-index) l.at;
+  shifted : IsShifted (length l.fn.labels) (λ k. get_or l.fn.labels k 0) (λ k. get_or l.labels k 0)
+      (IsOneOf l.found l.node-index) l.at;
 }

@@ -12,7 +12,8 @@ take_nodes-requires c =
     let p : IsPermutation (map (labelled c.args.labels.now) c.args.classes.now) c.sort_unstable_by_key.new.self.items =
     subst (λ l. IsPermutation l c.sort_unstable_by_key.new.self.items) c.label_all.ensures.items c.sort_unstable_by_key.ensures.permutation in
     let l = length_permutation (map (labelled c.args.labels.now) c.args.classes.now) c.sort_unstable_by_key.new.self.items p in
-    let n = length-map c.args.classes.now (labelled c.args.labels.now) in let v = ap length c.deref.ensures.value in
+    let n = length-map c.args.classes.now (labelled c.args.labels.now) in
+    let v = ap length c.deref.ensures.value in
     record { room = omega (arith, l, n, v, c.requires.room) }
 
 pub returns-clause-same : goal.returns-clause-same

@@ -1,5 +1,4 @@
-use Rattle.std.proofs.Common.{◌≡◌, ◌++◌, ◌∷◌, [], ◌<◌, ◌∙◌, ap, arith, below_more, get_or, length, None, subst, sym}
-use Rattle.std.proofs.lemmas.List.{get_or_append_left, get_or_default, get_or_push}
+use Rattle.std.proofs.Common.{◌≡◌, ◌<◌, ◌∙◌, ap, arith, get_or, length, None, subst, sym}
 use Rattle.ld_graph.specs.Edges.{IsEdge}
 use Rattle.ld_graph.specs.Inner.Insides.{AreLevelsFor, IsNearInside}
 use Rattle.ld_graph.specs.Walks.{DistanceIs}
@@ -7,38 +6,8 @@ use Rattle.ld_graph.proofs.InsideLemmas.{DistanceIs-all}
 use Rattle.ld_graph.proofs.KeptLemmas.{before_ends}
 use Rattle.ld_graph.proofs.graph.Graph.distances.Goals as goal
 
-pub loop-class-preserved : goal.loop-class-preserved
-loop-class-preserved c =
-    let i = c.loop-class.invariant in
-    let old = c.loop-class.all.items in
-    let class = c.loop-class.class in
-    let len : length old ≡ class = omega (arith, i.len, c.loop-class.all.ok.0) in
-    record {
-      len = omega (arith, c.in_ok-push.ensures.len, i.len);
-      each = rw c.in_ok-push.ensures.items (below_more (λ k. get_or (old ++ class ∷ []) k 0 ≡ k) class
-          (λ k low. get_or_append_left old (class ∷ []) 0 k (omega (arith, low, len)) ∙ i.each k low) (get_or_push old class 0 class len));
-    }
-
-pub search-requires : goal.search-requires
-search-requires c =
-    let i = c.self.invariant in
-    let classes = ap (λ g. g.classes) c.self.view_is in
-    record {
-      end = omega (arith, classes, i.before_classes, c.requires);
-      few = omega (arith, i.before_classes, i.few);
-      classes = omega (arith, classes, i.before_classes, c.in_ok-distances.ensures.len, c.len-2.ensures.count);
-      components = tt;
-      wanted = λ k d within.
-          let low : k < c.loop-class.class = omega (arith, within, c.deref.ensures.len, c.loop-class.invariant.len) in
-          let is = get_or_default c.deref.result.now k d 0 within ∙ ap (λ ns. get_or ns k 0) c.deref.ensures.value ∙ c.loop-class.invariant.each k low in
-          omega (arith, is, low, c.loop-class.auto.class-end, c.len-class-end.ensures.count, classes, i.before_classes);
-      ends = before_ends c.self.inside i;
-    }
-
-pub returns-clause-len : goal.returns-clause-len
-returns-clause-len c =
-    let same = ap length c.into_levels.ensures in
-    omega (arith, same, c.search.ensures.len, c.in_ok-distances.ensures.len, c.len-2.ensures.count)
+pub search-requires-clause-ends : goal.search-requires-clause-ends
+search-requires-clause-ends c = before_ends c.self.inside c.self.invariant
 
 pub returns-clause-each : goal.returns-clause-each
 returns-clause-each c = λ x.

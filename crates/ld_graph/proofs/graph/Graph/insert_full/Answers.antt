@@ -1,15 +1,16 @@
 use Rattle.std.proofs.lemmas.Bool.{true≢false}
 use Rattle.std.proofs.lemmas.List.{length_push, length-set}
-use Rattle.std.proofs.Common.{◌≡◌, ◌-◌, ◌<◌, ◌++◌, ◌∷◌, [], ◌↔◌, Bool, true, false, arith, length, set, ap, refl, sym, subst, ◌∙◌}
+use Rattle.std.proofs.Common.{rules, ◌≡◌, ◌<◌, ◌++◌, ◌∷◌, [], ◌↔◌, Bool, true, false, arith, length, set, ap}
+use Rattle.std.proofs.Common.{refl, sym, subst, ◌∙◌}
 use Rattle.std.specs.Prelude.{not}
-use Rattle.ld_graph.specs.declared.ranks.Insert.TheVariants.{Known}
-use Rattle.ld_graph.specs.Edges.{edge, IsEdge, with_edge, with_spares}
+use Rattle.ld_graph.specs.Edges.{edge, IsEdge}
 use Rattle.ld_graph.specs.Lists.{IsNear, list_at}
-use Rattle.ld_graph.specs.Order.{HasCycle, IsInserted, TellsSteps}
-use Rattle.ld_graph.specs.Inner.Kept.{graph_of, order_of}
-use Rattle.ld_graph.specs.Inner.Placed.{IsPlaced}
-use Rattle.ld_graph.proofs.EdgeLemmas.{IsEdge-found, IsEdge-missing, IsEdgeNumber-stored, IsNear-edge, IsNear-turned, ends_push, insert_key-known, insert_key-new}
-use Rattle.ld_graph.proofs.PlacedLemmas.{inserted, made, placed_cycle, placed_length, placed_rises}
+use Rattle.ld_graph.proofs.EdgeLemmas.{IsEdge-found, IsEdgeNumber-stored, insert_key-known, insert_key-new, IsNear-edge, IsNear-turned}
+use Rattle.ld_graph.proofs.EdgeLemmas.{ends_push, IsEdge-missing}
+use Rattle.ld_graph.specs.Order.{HasCycle, IsInserted}
+use Rattle.ld_graph.specs.Inner.Kept.{graph_of}
+use Rattle.ld_graph.proofs.PlacedLemmas.{inserted, made, placed_cycle, placed_length}
+use Rattle.ld_graph.proofs.PlacedLemmas.{placed_rises}
 use Rattle.ld_graph.proofs.graph.Graph.insert_full.Goals as goal
 
 -- what is added wasn't there, and what isn't was
@@ -25,7 +26,7 @@ pub invariant_of-self : goal.invariant_of-self
 invariant_of-self g c =
     let i = c.self.invariant in
     let keys : c.insert_full.new.self.keys ≡ c.self.inside.edges.keys =
-    c.in-Ok.ensures.keys ∙ insert_key-known c.self.inside.edges.keys (edge c.args.a c.args.b) (was_there _ _ c.in-Ok.ensures.added c.if-not-added.true) in
+    c.in-Ok.ensures.keys ∙ insert_key-known c.self.inside.edges.keys (edge c.args.a c.args.b) (was_there _ _ c.in-Ok.ensures.added (search rules)) in
     let count = ap length keys in
     let spare = ap (λ g. g.spare_edges) c.self.view_is in
     record {
@@ -46,31 +47,27 @@ invariant_of-self g c =
       cycle = λ t. subst (λ k. HasCycle (IsEdge k)) (sym keys) (i.cycle t);
     }
 
-pub returns-then-not-added : goal.returns-then-not-added
-returns-then-not-added g c =
-    let was = was_there _ _ c.in-Ok.ensures.added c.if-not-added.true in
-    let keys : c.insert_full.new.self.keys ≡ c.self.inside.edges.keys =
-    c.in-Ok.ensures.keys ∙ insert_key-known c.self.inside.edges.keys (edge c.args.a c.args.b) was in
-    let s = c.in-Ok.ensures.stored in
-    record {
-      told = refl;
-      number = IsEdgeNumber-stored _ _ _ _ s.0 c.insert_full.ensures.unique c.in-Ok.ensures.within s.1 s.2;
-      there = (
-        λ _. subst (λ g. IsEdge g.edges c.args.a c.args.b) c.self.view_is (IsEdge-found c.self.inside.edges.keys c.args.a c.args.b was),
-        λ _. refl,
-      );
-      same = λ _. ap (λ k. record (with_spares (graph_of c.self.inside) c.self.inside.spare_classes (c.self.inside.spare_edges - 1)) { edges = k }) keys
-          ∙ ap (λ g. with_spares g g.spare_classes (g.spare_edges - 1)) c.self.view_is;
-      inserted = λ no. absurd (no refl);
-      new = λ no. absurd (no refl);
-    }
+pub returns-then-not-added-clause-number : goal.returns-then-not-added-clause-number
+returns-then-not-added-clause-number g c =
+    let s = c.in-Ok.ensures.stored in IsEdgeNumber-stored _ _ _ _ s.0 c.insert_full.ensures.unique c.in-Ok.ensures.within s.1 s.2
+
+pub returns-then-not-added-clause-there : goal.returns-then-not-added-clause-there
+returns-then-not-added-clause-there g c = (
+  λ _. subst (λ g. IsEdge g.edges c.args.a c.args.b) c.self.view_is
+      (IsEdge-found c.self.inside.edges.keys c.args.a c.args.b (was_there _ _ c.in-Ok.ensures.added (search rules))),
+  λ _. refl,
+)
+
+pub returns-clause-number : goal.returns-clause-number
+returns-clause-number g c =
+    let s = c.in-Ok.ensures.stored in IsEdgeNumber-stored _ _ _ _ s.0 c.insert_full.ensures.unique c.in-Ok.ensures.within s.1 s.2
 
 pub invariant_of-self-2 : goal.invariant_of-self-2
 invariant_of-self-2 g c =
     let placed = c.place-answer.ensures.placed in
     let i = c.self.invariant in
     let keys : c.insert_full.new.self.keys ≡ c.self.inside.edges.keys ++ edge c.args.a c.args.b ∷ [] =
-    c.in-Ok.ensures.keys ∙ insert_key-new c.self.inside.edges.keys (edge c.args.a c.args.b) (wasnt_there _ _ c.in-Ok.ensures.added c.if-not-added.false) in
+    c.in-Ok.ensures.keys ∙ insert_key-new c.self.inside.edges.keys (edge c.args.a c.args.b) (wasnt_there _ _ c.in-Ok.ensures.added (search rules)) in
     let count = ap length keys ∙ length_push c.self.inside.edges.keys (edge c.args.a c.args.b) in
     let classes = ap (λ g. g.classes) c.self.view_is in
     let spare = ap (λ g. g.spare_edges) c.self.view_is in
@@ -114,56 +111,42 @@ invariant_of-self-2 g c =
       cycle = λ t. subst (λ k. HasCycle (IsEdge k)) (sym keys) (placed_cycle _ i _ _ _ _ c.place-answer.result placed t);
     }
 
-pub push-requires : goal.push-requires
-push-requires g c =
-    let i = c.self.invariant in
-    let fresh = IsEdge-missing c.self.inside.edges.keys c.args.a c.args.b (wasnt_there _ _ c.in-Ok.ensures.added c.if-not-added.false) in
-    let classes = ap (λ g. g.classes) c.self.view_is in
-    let spare = ap (λ g. g.spare_edges) c.self.view_is in
-    record {
-      a = omega (arith, classes, c.requires.a, i.after_classes);
-      b = omega (arith, classes, c.requires.b, i.before_classes);
-      after_room = omega (arith, spare, c.requires.room, i.after_items, i.room_after.1);
-      before_room = omega (arith, spare, c.requires.room, i.before_items, i.room_before.1);
-      after_fresh = λ n. fresh ((i.after_edges c.args.a c.args.b).0 n);
-      before_fresh = λ n. fresh ((i.before_edges c.args.b c.args.a).0 n);
-    }
+pub push-requires-clause-after_fresh : goal.push-requires-clause-after_fresh
+push-requires-clause-after_fresh g c = λ n.
+    IsEdge-missing c.self.inside.edges.keys c.args.a c.args.b (wasnt_there _ _ c.in-Ok.ensures.added (search rules)) ((c.self.invariant.after_edges c.args.a c.args.b).0 n)
 
-pub place-answer-requires : goal.place-answer-requires
-place-answer-requires g c =
-    let i = c.self.invariant in
-    let classes = ap (λ g. g.classes) c.self.view_is in
-    record {
-      a = omega (arith, classes, c.requires.a, i.ranked);
-      b = omega (arith, classes, c.requires.b, i.ranked);
-      classes = (i.after_classes ∙ sym i.ranked, i.before_classes ∙ sym i.ranked);
-      turned = λ x y. (λ n. (i.before_edges y x).1 ((i.after_edges x y).0 n), λ n. (i.after_edges x y).1 ((i.before_edges y x).0 n));
-      ends = λ x y n. let e = i.ends x y ((i.after_edges x y).0 n) in (omega (arith, e, i.ranked), omega (arith, e, i.ranked));
-      rises = λ f x y n. i.rises f x y ((i.after_edges x y).0 n);
-      steps = c.requires.steps;
-    }
+pub push-requires-clause-before_fresh : goal.push-requires-clause-before_fresh
+push-requires-clause-before_fresh g c = λ n.
+    IsEdge-missing c.self.inside.edges.keys c.args.a c.args.b (wasnt_there _ _ c.in-Ok.ensures.added (search rules)) ((c.self.invariant.before_edges c.args.b c.args.a).0 n)
 
-pub returns : goal.returns
-returns g c =
-    let old = c.self.inside in
-    let has_cycle = c.place-answer.new.has_cycle in let ranks = c.place-answer.new.ranks.ranks in
+pub place-answer-requires-clause-turned : goal.place-answer-requires-clause-turned
+place-answer-requires-clause-turned g c = λ x y.
+    let i = c.self.invariant in (
+      λ n. (i.before_edges y x).1 ((i.after_edges x y).0 n),
+      λ n. (i.after_edges x y).1 ((i.before_edges y x).0 n),
+    )
+
+pub place-answer-requires-clause-ends : goal.place-answer-requires-clause-ends
+place-answer-requires-clause-ends g c = λ x y n.
+    let i = c.self.invariant in
+    let e = i.ends x y ((i.after_edges x y).0 n) in
+    (omega (arith, e, i.ranked), omega (arith, e, i.ranked))
+
+pub place-answer-requires-clause-rises : goal.place-answer-requires-clause-rises
+place-answer-requires-clause-rises g c = λ f x y n.
+    let i = c.self.invariant in i.rises f x y ((i.after_edges x y).0 n)
+
+pub returns-clause-inserted : goal.returns-clause-inserted
+returns-clause-inserted g c _ =
     let placed = c.place-answer.ensures.placed in
-    let was = wasnt_there _ _ c.in-Ok.ensures.added c.if-not-added.false in
-    let fresh = IsEdge-missing old.edges.keys c.args.a c.args.b was in
-    let keys : c.insert_full.new.self.keys ≡ old.edges.keys ++ edge c.args.a c.args.b ∷ [] =
-    c.in-Ok.ensures.keys ∙ insert_key-new old.edges.keys (edge c.args.a c.args.b) was in
-    let known : c.place-answer.result ≡ Known → ⊥ = λ e.
-    subst (λ r. IsPlaced (IsNear old.lists.after.lists) c.args.a c.args.b r old.has_cycle has_cycle old.ranks.ranks ranks) e placed in
-    let made = made old c.self.invariant c.args.a c.args.b has_cycle ranks in
-    let s = c.in-Ok.ensures.stored in
-    record {
-      told = subst (λ n. TellsSteps n c.place-answer.result c.args.steps.now c.place-answer.new.steps)
-          (c.self.invariant.ranked ∙ ap (λ g. g.classes) c.self.view_is) c.place-answer.ensures.told;
-      number = IsEdgeNumber-stored _ _ _ _ s.0 c.insert_full.ensures.unique c.in-Ok.ensures.within s.1 s.2;
-      there = (λ e. absurd (known e), λ e. absurd (fresh (subst (λ g. IsEdge g.edges c.args.a c.args.b) (sym c.self.view_is) e)));
-      same = λ e. absurd (known e);
-      inserted = λ _. subst (λ g. IsInserted g c.args.a c.args.b c.place-answer.result (record made { edges = c.insert_full.new.self.keys })) c.self.view_is
-          (subst (λ k. IsInserted (graph_of old) c.args.a c.args.b c.place-answer.result (record made { edges = k })) (sym keys)
-          (inserted old c.self.invariant c.args.a c.args.b has_cycle ranks c.place-answer.result placed fresh));
-      new = λ _. ap (λ k. record made { edges = k }) keys ∙ ap (λ g. with_edge g c.args.a c.args.b (order_of has_cycle ranks)) c.self.view_is;
-    }
+    let keys : c.insert_full.new.self.keys ≡ c.self.inside.edges.keys ++ edge c.args.a c.args.b ∷ [] =
+    c.in-Ok.ensures.keys ∙ insert_key-new c.self.inside.edges.keys (edge c.args.a c.args.b) (wasnt_there _ _ c.in-Ok.ensures.added (search rules)) in
+    subst (λ g. IsInserted g c.args.a c.args.b c.place-answer.result (record (made c.self.inside
+    c.self.invariant c.args.a c.args.b c.place-answer.new.has_cycle
+    c.place-answer.new.ranks.ranks) { edges = c.insert_full.new.self.keys })) c.self.view_is
+    (subst (λ k. IsInserted (graph_of c.self.inside) c.args.a c.args.b c.place-answer.result (record
+    (made c.self.inside c.self.invariant c.args.a c.args.b c.place-answer.new.has_cycle
+    c.place-answer.new.ranks.ranks) { edges = k })) (sym keys)
+    (inserted c.self.inside c.self.invariant c.args.a c.args.b c.place-answer.new.has_cycle
+    c.place-answer.new.ranks.ranks c.place-answer.result placed
+    (IsEdge-missing c.self.inside.edges.keys c.args.a c.args.b (wasnt_there _ _ c.in-Ok.ensures.added (search rules)))))

@@ -1,8 +1,8 @@
-use Rattle.std.proofs.Common.{◌≡◌, ◌<◌, ◌≤◌, ◌∙◌, ◌+◌, ℕ, ap, arith, length, refl, subst, sym, get_or}
+use Rattle.std.proofs.Common.{◌≡◌, ◌<◌, ◌≤◌, ◌∙◌, ℕ, ap, arith, refl, subst, sym, get_or}
 use Rattle.std.proofs.lemmas.List.{get_or_read}
 use Rattle.ld_graph.specs.declared.trail.Stage.TheVariants.{Fresh, Open}
 use Rattle.ld_graph.specs.Lists.{list_at}
-use Rattle.ld_graph.specs.Inner.Trails.{IsTrail, advanced, next_at, shown, stage_at, top_of, work}
+use Rattle.ld_graph.specs.Inner.Trails.{IsTrail, advanced, shown, stage_at, work}
 use Rattle.ld_graph.proofs.StepLemmas.{class_within, enter_less, enter_trail, known_trail, look_less, nexts_within, to_within, waits_trail}
 use Rattle.ld_graph.proofs.TrailLemmas.{same_place}
 use Rattle.ld_graph.proofs.trail.Trail.go_on.Goals as goal
@@ -37,36 +37,6 @@ stage_is : (c : After-index) → stage_at (shown c.args.self.now) (get_or c.afte
 stage_is c =
     let w = to_within _ _ c.requires.trail c.requires.some c.requires.ends _ c.top-top.ensures _ (c.after-near.ensures.near ∙ ap (λ l. list_at l.after.lists c.top-top.result.class) c.new.ensures.lists) c.index-next.result.now (seen (goal.at.After-index c).After-index-next) (omega (arith, c.if-next-near.false)) in
     sym (get_or_read c.args.self.now.stages.items (get_or c.after-near.result.now c.index-next.result.now 0) c.index.result.now w c.index.ensures Fresh)
-
--- and another one can be counted
-room : (c : After-index) → ((top_of (shown c.args.self.now)).class < length c.args.self.now.nexts.items)
-    × (next_at (shown c.args.self.now) (top_of (shown c.args.self.now)).class + 1 < 18446744073709551616)
-room c =
-    let w = nexts_within _ _ c.requires.trail c.requires.some c.requires.ends _ c.top-top.ensures _ (c.after-near.ensures.near ∙ ap (λ l. list_at l.after.lists c.top-top.result.class) c.new.ensures.lists) 0 in
-    let s = seen (goal.at.After-index c).After-index-next in
-    let n = ap (λ f. next_at (shown c.args.self.now) f.class) c.top-top.ensures in
-    (subst (λ f. f.class < length c.args.self.now.nexts.items) c.top-top.ensures w, omega (arith, n, s, c.if-next-near.false, c.after-near.type_inv))
-
-pub leave-requires : goal.leave-requires
-leave-requires c =
-    let l = ap length (c.after-near.ensures.near ∙ ap (λ l. list_at l.after.lists c.top-top.result.class) c.new.ensures.lists
-    ∙ ap (λ f. list_at c.args.lists.now.after.lists f.class) c.top-top.ensures) in
-    let n = ap (λ f. next_at (shown c.args.self.now) f.class) c.top-top.ensures in
-    let s = seen (goal.at.leave-requires c).After-index-next in
-    record { trail = c.requires.trail; some = c.requires.some; done = omega (arith, l, n, s, c.if-next-near.true) }
-
-pub advance-requires : goal.advance-requires
-advance-requires c =
-    let r = room (goal.at.advance-requires c).After-index in record { some = c.requires.some; class = r.0; fits = r.1 }
-
-pub advance-requires-in_default : goal.advance-requires-in_default
-advance-requires-in_default c =
-    let r = room (goal.at.advance-requires-in_default c).After-index in
-    let same : c.in_default.self ≡ c.args.self.now = elim c.in_default.branch [
-      | in_default-via-in-Open+else-position-top w ↦ w.self-is
-      | in_default-via-in_default w ↦ w.self-is
-    ] in
-    rw same (record { some = c.requires.some; class = r.0; fits = r.1 })
 
 -- the successor waits, further back than is known
 pub returns-in-Open-clause-trail : goal.returns-in-Open-clause-trail
